@@ -3,7 +3,6 @@ use Rattle.std.proofs.Common.{◌≡◌, ◌≤◌, ◌<◌, ◌+◌, ◌⊎◌,
 use Rattle.std.specs.List.{AllByRecursion}
 use Rattle.format_entry.specs.Record.{IsRecord}
 use Rattle.sql_types.specs.declared.digest.HeldDigest.{HeldDigest}
-use Rattle.sql_types.specs.declared.entry.BlockRecord.{BlockRecord}
 use Rattle.sql_types.specs.declared.image.Image.{Image}
 use Rattle.spec_ledger.specs.Blocks.{no_hash, first_or_no_hash}
 use Rattle.format_image.specs.ImageBytes.{IsImage}

@@ -38,3 +38,9 @@ groups def columns positions indexes a b c a_is b_is c_is columns_is positions_i
     ap₂ (λ x y. x && y) (ap₂ (λ x y. x && y) a_is (b_is ∙ ap (columns_are_right columns) positions_is ∙ ap (λ cs. columns_are_right cs (positions_of cs)) columns_is))
     (c_is ∙ ap₂ (λ (cs : List ColumnDef) is. indexes_are_right (length cs) is) columns_is indexes_is)
     ∙ in_three_groups def
+
+pub either_way : (a b : Bool) → (a && b) ≡ (b && a)
+either_way true true = refl
+either_way true false = refl
+either_way false true = refl
+either_way false false = refl

@@ -8,6 +8,7 @@ use Rattle.sql_types.specs.declared.entry.BlockRecord.{BlockRecord}
 use Rattle.sql_types.specs.declared.image.Image.{Image}
 use Rattle.spec_verify.specs.Blocks.{entries_in}
 use Rattle.spec_verify.specs.Collision.{Collides}
+use Rattle.audit_extract.specs.declared.found.Collision.{Collision}
 use Rattle.audit_extract.specs.Hashed.{hashed, under}
 use Rattle.audit_extract.specs.Leaves.{leaves_in}
 
@@ -18,6 +19,10 @@ pub record HasCollisionBetween (h : List ℕ → List ℕ) (S T : List ℕ → T
   pub first_is : S first
   pub second_is : T second
   pub collide : Collides h first second
+
+-- the two that were found are such
+abbrev pub CollideBetween : (List ℕ → List ℕ) → (List ℕ → Type 0) → (List ℕ → Type 0) → Collision → Type 0
+CollideBetween h S T c = Collides h c.first c.second × (S c.first × T c.second)
 
 -- the string is hashed at a node of the tree of some leaves
 pub record IsAtNode (h : List ℕ → List ℕ) (leaves : List (List ℕ)) (x : List ℕ) : Type 0 where

@@ -2,7 +2,8 @@
 
 ghost use Rattle.std.specs.Prelude.{◌≡◌, ◌≢◌, ◌<◌, ◌^◌, true, false, Some, IsSome, IfOk};
 ghost use Rattle.std.specs.Option.{option_map};
-ghost use Rattle.spec_verify.specs.Collision.{Collides};
+ghost use Rattle.audit_extract.specs.Collisions.{CollideBetween};
+ghost use Rattle.audit_paths.specs.Hashed.{IsHashedUnder};
 ghost use Rattle.audit_paths.specs.Path.{AreHashes, HaveOneRoot, node_of, root_under};
 
 use crate::half::{Half, half_of};
@@ -14,7 +15,8 @@ use base_types::{Blob, Memory};
 use std::alloc::Global;
 
 /// Of two different leaves that their paths lead to one root from one place, two different byte strings with
-/// one hash. Each leaf stands before its path. Goes from the root down until the bytes that were hashed differ.
+/// one hash, of which one is hashed on the first leaf's way and the other on the second's. Each leaf stands before its
+/// path. Goes from the root down until the bytes that were hashed differ.
 pub fn find_in_paths<H: Hash32>(
     alloc: Global,
     h: H,
@@ -28,7 +30,8 @@ pub fn find_in_paths<H: Hash32>(
     requires b_path { AreHashes b.1.now }
     requires differ { a.0.now ≢ b.0.now }
     requires root { HaveOneRoot (H.digest h) place count a.0.now a.1.now b.0.now b.1.now }
-    ensures { IfOk result (λ c. Collides (H.digest h) c.first c.second) }
+    ensures { IfOk result (CollideBetween (H.digest h) (IsHashedUnder (H.digest h) a.entry.1.now place count a.entry.0.now)
+        (IsHashedUnder (H.digest h) b.entry.1.now place count b.entry.0.now)) }
 {
     let (a_leaf, mut a_path) = a;
     let (b_leaf, mut b_path) = b;

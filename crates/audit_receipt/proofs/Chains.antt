@@ -1,6 +1,6 @@
 -- Records that lead to one digest.
-use Rattle.std.proofs.Common.{◌≡◌, ◌≤◌, ◌<◌, ◌+◌, ◌-◌, ◌⊎◌, ℕ, zero, suc, List, [], ◌∷◌, length, take, drop, refl, arith, sym, ◌∙◌, ap, subst, inl, length-drop}
-use Rattle.std.specs.List.{AllByRecursion}
+use Rattle.std.proofs.Common.{◌≡◌, ◌≤◌, ◌<◌, ◌+◌, ◌-◌, ◌⊎◌, ℕ, zero, suc, List, [], ◌∷◌, length, take, drop, Some, refl, arith, sym, ◌∙◌, ap, subst, inl, length-drop}
+use Rattle.std.specs.List.{AllByRecursion, slice_get}
 use Rattle.std.proofs.lemmas.List.{drop-take, drop-drop}
 use Rattle.format_entry.specs.Record.{record_bytes, IsRecord}
 use Rattle.format_entry.proofs.RecordExact.{equal_records}
@@ -12,6 +12,12 @@ use Rattle.audit_extract.proofs.Collisions.{equal_or, first_record, later_record
 use Rattle.audit_extract.proofs.Lists.{cons_is}
 use Rattle.audit_extract.proofs.Unbroken.{so_far}
 use Rattle.audit_receipt.specs.Accepted.{KeepsHashOf, AreLinked, LeadTo}
+
+pub first_left : (j : ℕ) (rs : List BlockRecord) (r : BlockRecord) (more : List BlockRecord) → drop j rs ≡ r ∷ more → slice_get rs j ≡ Some r
+first_left zero [] r more e = cc
+first_left zero (s ∷ rs) r more e = ap Some (cons_is s r rs more e).0
+first_left (suc j) [] r more e = cc
+first_left (suc j) (s ∷ rs) r more e = first_left j rs r more e
 
 module _ (h : List ℕ → List ℕ) where
   -- two things are one, or a record of the one list and one of the other collide

@@ -16,16 +16,11 @@ use Rattle.audit_paths.specs.Hashed.{IsHashedUnder}
 use Rattle.audit_paths.specs.Path.{audit_path}
 use Rattle.audit_paths.proofs.Leading.{path_nodes}
 use Rattle.audit_receipt.specs.Made.{part_at}
+use Rattle.audit_receipt.proofs.Chains.{first_left}
 use Rattle.audit_receipt.proofs.Found.{HasBlock}
 use Rattle.audit_receipt.proofs.Made.{leaf_at}
 
 -- ---- lists
-
-first_left : (j : ℕ) (rs : List BlockRecord) (r : BlockRecord) (more : List BlockRecord) → drop j rs ≡ r ∷ more → slice_get rs j ≡ Some r
-first_left zero [] r more e = cc
-first_left zero (s ∷ rs) r more e = ap Some (cons_is s r rs more e).0
-first_left (suc j) [] r more e = cc
-first_left (suc j) (s ∷ rs) r more e = first_left j rs r more e
 
 -- the entries of a block, as they are counted from the front
 part_is : (j : ℕ) (rs : List BlockRecord) (xs : List TxEntry) (r : BlockRecord) (more : List BlockRecord) → drop j rs ≡ r ∷ more

@@ -6,3 +6,4 @@ pub mod Imaged
 pub mod Made
 pub mod SameRecords
 pub mod Spelled
+pub mod Strings

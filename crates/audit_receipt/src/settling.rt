@@ -4,7 +4,7 @@ ghost use Rattle.std.specs.Prelude.{◌≡◌, ◌≢◌, ◌<◌, ◌+◌, ◌�
 ghost use Rattle.std.specs.List.{AllByRecursion};
 ghost use Rattle.sql_types.specs.declared.entry.BlockRecord.{BlockRecord};
 ghost use Rattle.format_entry.specs.Record.{IsRecord, record_bytes};
-ghost use Rattle.spec_verify.specs.Collision.{Collides};
+ghost use Rattle.audit_extract.specs.Collisions.{CollideBetween, IsRecordAmong};
 ghost use Rattle.format_receipt.specs.Receipts.{IsReceipt};
 ghost use Rattle.audit_receipt.specs.Accepted.{Accepted, LeadTo};
 ghost use Rattle.audit_receipt.specs.Settles.{Settles};
@@ -21,8 +21,9 @@ use sql_types::{BlockRecord, HeldDigest};
 use std::alloc::Global;
 
 /// Whether two receipts of one place, both accepted with one digest, have one entry; where they don't, two
-/// different byte strings with one hash. The records are walked down from the digest's block, and then the two
-/// paths from the root to the leaves, until the bytes that were hashed differ.
+/// different byte strings with one hash, of which one is hashed where the first receipt is checked and the other
+/// where the second is. The records are walked down from the digest's block, and then the two paths from the root
+/// to the leaves, until the bytes that were hashed differ.
 pub fn settle<H: Hash32>(
     alloc: Global,
     h: H,
@@ -94,7 +95,7 @@ fn find_in_records<H: Hash32>(
     requires a_leads { LeadTo (H.digest h) from a.now digest.now }
     requires b_leads { LeadTo (H.digest h) from b.now digest.now }
     ensures { IfOk result (λ found. MatchOption found (a.now ≡ b.now)
-        (λ c. Collides (H.digest h) c.first c.second)) }
+        (CollideBetween (H.digest h) (IsRecordAmong a.now) (IsRecordAmong b.now))) }
 {
     let mut at = a.len();
     while at > 0 {

@@ -8,7 +8,7 @@ use Rattle.sql_types.specs.JournalRules.{ItemRules, TxRules, is_block_size, ids_
 use Rattle.spec_model.specs.Catalog.{Tables}
 use Rattle.spec_model.specs.Events.{events_of}
 use Rattle.spec_model.specs.Journals.{IsLegal, IsOther, closed, tx_count, serial}
-use Rattle.spec_syntax.specs.Text.{statement_of}
+use Rattle.spec_model.specs.Script.{Reading}
 use Rattle.law_events.specs.Room.{FitsLeaf}
 use Rattle.spec_ledger.specs.Ledger.{Ledger, ledger_of}
 use Rattle.store_blocks.specs.LedgerChain.{HashedLedger, KeepsHash}
@@ -38,12 +38,12 @@ abbrev pub HaveLeaves : ℕ → Tables → Type 0
 HaveLeaves tx tables = AllByRecursion (λ t. AllByRecursion FitsLeaf (events_of tx t)) tables
 
 -- these items are legal, and the machine and the books are where they lead
-pub record Reached (h : List ℕ → List ℕ) (items : List JournalItem) (m : Machine)
+pub record Reached (h : List ℕ → List ℕ) (reads : Reading) (items : List JournalItem) (m : Machine)
     (b : HashedLedger) : Type 0 where
-  pub legal : IsLegal statement_of items
-  pub machine : m ≡ at_rest (serial statement_of items)
+  pub legal : IsLegal reads items
+  pub machine : m ≡ at_rest (serial reads items)
   pub order : InOrder m
-  pub ledger : b.ledger ≡ ledger_of h statement_of items
+  pub ledger : b.ledger ≡ ledger_of h reads items
   pub hash : KeepsHash h b
 
 -- an image of these parts
@@ -58,9 +58,9 @@ image_from database l tables =
     }
 
 -- the items before this one are legal, and it differs there
-abbrev pub DiffersAt : ReplayErr → List JournalItem → Type 0
-DiffersAt (errors.Differs place statement) items =
+abbrev pub DiffersAt : Reading → ReplayErr → List JournalItem → Type 0
+DiffersAt reads (errors.Differs place statement) items =
     (before : List JournalItem) × (i : JournalItem) × (rest : List JournalItem) × (items ≡ before ++ i ∷ rest)
-    × (length before ≡ place) × IsLegal statement_of before
-    × (run_end statement_of (serial statement_of before) i ≡ Differs statement)
-DiffersAt errors.Memory items = Unit {0}
+    × (length before ≡ place) × IsLegal reads before
+    × (run_end reads (serial reads before) i ≡ Differs statement)
+DiffersAt reads errors.Memory items = Unit {0}

@@ -3,7 +3,7 @@
 ghost use Rattle.std.specs.Prelude.{◌≡◌, IfErr, IfOk, OnOk};
 ghost use Rattle.spec_model.specs.LegalJournals.{IsLegalJournal};
 ghost use Rattle.format_journal.specs.Rules.{IsJournal};
-ghost use Rattle.spec_syntax.specs.Text.{statement_of};
+ghost use Rattle.spec_syntax.specs.Text.{reading_of};
 ghost use Rattle.format_image.specs.Image.{image_of as spec_image_of};
 ghost use Rattle.format_image.specs.ImageBytes.{IsImage};
 ghost use Rattle.audit_replay.specs.Reached.{DiffersAt};
@@ -42,17 +42,18 @@ impl From<Memory> for ReplayErr {
     }
 }
 
-/// Runs a journal again on the plain machine. Where it is legal the answer is its image: the one of the
-/// tables to which its transactions lead, with their entries and the blocks that it closed, and the image has
-/// a spelling. It costs what the machine costs, the hashes of each event, entry and block, and for each
-/// transaction a look at each version of each table.
+/// Runs a journal again on the plain machine, where a text is the statement that it is in journals of its
+/// version. Where it is legal the answer is its image: the one of the tables to which its transactions lead,
+/// with their entries and the blocks that it closed, and the image has a spelling. It costs what the machine
+/// costs, the hashes of each event, entry and block, and for each transaction a look at each version of each
+/// table.
 pub fn replay<H: Hash32>(alloc: Global, h: H, journal: &Journal) -> Result<Image, ReplayErr>
     requires { IsJournal journal.now }
-    ensures legal { OnOk result (IsLegalJournal statement_of journal.now) }
+    ensures legal { OnOk result (IsLegalJournal (reading_of journal.now.version) journal.now) }
     ensures image { IfOk result (λ image. image
-        ≡ spec_image_of (H.digest h) statement_of journal.now.database journal.now.items) }
+        ≡ spec_image_of (H.digest h) (reading_of journal.now.version) journal.now.database journal.now.items) }
     ensures spelling { IfOk result IsImage }
-    ensures differs { IfErr result (λ error. DiffersAt error journal.now.items) }
+    ensures differs { IfErr result (λ error. DiffersAt (reading_of journal.now.version) error journal.now.items) }
 {
     let items = journal.items.as_slice();
     let mut serial_machine = SerialMachine::new(alloc)?;
@@ -61,6 +62,7 @@ pub fn replay<H: Hash32>(alloc: Global, h: H, journal: &Journal) -> Result<Image
         let end = run_item(
             alloc,
             h,
+            journal.version,
             &items[..place],
             &items[place],
             &mut serial_machine,

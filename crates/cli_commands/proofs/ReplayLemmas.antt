@@ -18,7 +18,7 @@ use Rattle.spec_model.specs.Journals.{cut, tx_count, after_item, serial_from, se
 use Rattle.spec_model.specs.LegalJournals.{IsLegalJournal}
 use Rattle.spec_model.specs.Script.{Reading, script}
 use Rattle.spec_model.specs.SystemTables.{first_tables}
-use Rattle.spec_syntax.specs.Text.{statement_of}
+use Rattle.spec_syntax.specs.Text.{reading_of}
 use Rattle.law_blocks.proofs.Counting.{entries_counted}
 use Rattle.format_image.specs.Image.{image_of, image_of_cut}
 use Rattle.format_image.specs.ImageBytes.{image_bytes, IsImage}
@@ -27,6 +27,7 @@ use Rattle.sql_reference.specs.declared.serial_machine.ReplayAgreement.TheVarian
 use Rattle.spec_verify.specs.declared.place.Verdict.TheVariants.{Yes}
 use Rattle.spec_verify.specs.Bytes.{verdict_of}
 use Rattle.law_accepts.specs.Held.{AllHeld}
+use Rattle.law_catalog_rows.specs.Written.{ReadsWritten}
 use Rattle.audit_replay.specs.Reached.{DiffersAt}
 use Rattle.audit_replay.specs.declared.running.ReplayErr.{ReplayErr}
 use Rattle.audit_replay.specs.declared.running.ReplayErr.TheVariants as errors
@@ -37,8 +38,7 @@ use Rattle.cli_commands.specs.Answer.{HasPut, HasWritten, EndsBy, Unfailed}
 use Rattle.cli_commands.specs.Calls.{Gave, AreGets, ArePuts, Behind, AreGetsAndPuts, AreWrites}
 use Rattle.cli_commands.specs.Files.{TellsLeft, TellsHeld, FirstArePut, put_held}
 use Rattle.cli_commands.specs.Names.{LacksName, image_limit}
-use Rattle.workload_run.specs.Agreed.{last_image_bytes}
-use Rattle.cli_commands.specs.Replay.{IsUnderName, IsSpelled, AreRefused, IsIllegalAt, IsIllegal, LegalUnder, replayed_files, IsAccepted, IsImageOf, LacksImage, LacksReplay, ReplayedOrIdle, ReplayCause, HasOutput, SavesReplay, PutsAccepted, replayed_text, replay_status}
+use Rattle.cli_commands.specs.Replay.{IsUnderName, IsSpelled, AreRefused, IsLegalInVersion, IsIllegalAt, IsIllegal, LegalUnder, replayed_image, replayed_files, IsAccepted, IsImageOf, LacksImage, LacksReplay, ReplayedOrIdle, ReplayCause, HasOutput, SavesReplay, PutsAccepted, replayed_text, replay_status}
 use Rattle.cli_commands.specs.Run.{image_name, image_file, journal_name}
 use Rattle.cli_commands.proofs.AnswerLemmas.{put_is, written_is}
 use Rattle.cli_commands.proofs.CallLemmas.{since_none, since_weaker}
@@ -47,80 +47,83 @@ use Rattle.cli_commands.proofs.GetLemmas.{Answers}
 -- ---- a journal that isn't legal
 
 -- an item of a legal journal may stand behind those before it
-next_at : (before front : List JournalItem) (T : Tables) (i : JournalItem) (rest : List JournalItem)
-    → IsLegalFrom statement_of before T (front ++ i ∷ rest) → IsNext statement_of (before ++ front) (serial_from statement_of T front) i
+next_at : (reads : Reading) (before front : List JournalItem) (T : Tables) (i : JournalItem) (rest : List JournalItem)
+    → IsLegalFrom reads before T (front ++ i ∷ rest) → IsNext reads (before ++ front) (serial_from reads T front) i
 unfolding serial_from
-next_at before [] T i rest legal = subst (λ (l : List JournalItem). IsNext statement_of l T i) (sym (append-nil before)) legal.0
-next_at before (j ∷ js) T i rest legal =
-    subst (λ (l : List JournalItem). IsNext statement_of l (serial_from statement_of (after_item statement_of T j) js) i) (append_assoc before (j ∷ []) js)
-    (next_at (before ++ j ∷ []) js (after_item statement_of T j) i rest legal.1)
+next_at reads before [] T i rest legal = subst (λ (l : List JournalItem). IsNext reads l T i) (sym (append-nil before)) legal.0
+next_at reads before (j ∷ js) T i rest legal =
+    subst (λ (l : List JournalItem). IsNext reads l (serial_from reads (after_item reads T j) js) i) (append_assoc before (j ∷ []) js)
+    (next_at reads (before ++ j ∷ []) js (after_item reads T j) i rest legal.1)
 
-closing_agrees : (T : Tables) (k : ℕ) → run_end statement_of T (Close k) ≡ Agrees
+closing_agrees : (reads : Reading) (T : Tables) (k : ℕ) → run_end reads T (Close k) ≡ Agrees
 unfolding run_end
-closing_agrees T k = refl
+closing_agrees reads T k = refl
 
 -- what may stand in a journal agrees when it is run again
 abbrev pub AgreesAgain : Type 0
 AgreesAgain = (reads : Reading) (T : Tables) (id : ℕ) (session : List ℕ) (time : ℕ) (explicit : Bool) (lines : List Line)
     → AgreesWith reads T id explicit lines (script reads explicit T id (map (λ l. l.0) lines)) → run_end reads T (Tx id session time explicit lines) ≡ Agrees
 
-next_agrees : AgreesAgain → (before : List JournalItem) (T : Tables) (i : JournalItem) → IsNext statement_of before T i → run_end statement_of T i ≡ Agrees
-next_agrees again before T (Tx id session time explicit lines) next = again statement_of T id session time explicit lines next.0
-next_agrees again before T (Close k) next = closing_agrees T k
+next_agrees : AgreesAgain → (reads : Reading) (before : List JournalItem) (T : Tables) (i : JournalItem) → IsNext reads before T i → run_end reads T i ≡ Agrees
+next_agrees again reads before T (Tx id session time explicit lines) next = again reads T id session time explicit lines next.0
+next_agrees again reads before T (Close k) next = closing_agrees reads T k
 
 not_both : (statement : ℕ) → Agrees ≡ Differs statement → ⊥
 not_both statement e = cc
 
 -- so no journal with an item that differs is legal
-pub illegal_at : AgreesAgain → (J : JournalOf) (item statement : ℕ) → DiffersAt (errors.Differs item statement) J.items → IsIllegalAt J item statement
+pub illegal_at : AgreesAgain → (J : JournalOf) (item statement : ℕ) → DiffersAt (reading_of J.version) (errors.Differs item statement) J.items → IsIllegalAt J item statement
 illegal_at again J item statement d = record {
   not_legal = λ whole.
-      let next : IsNext statement_of d.0 (serial statement_of d.0) d.1 = next_at [] d.0 first_tables d.1 d.2 (subst (IsLegal statement_of) d.3 whole.legal) in
-      not_both statement (sym (next_agrees again d.0 (serial statement_of d.0) d.1 next) ∙ d.6);
+      let reads : Reading = reading_of J.version in
+      let next : IsNext reads d.0 (serial reads d.0) d.1 = next_at reads [] d.0 first_tables d.1 d.2 (subst (IsLegal reads) d.3 whole.legal) in
+      not_both statement (sym (next_agrees again reads d.0 (serial reads d.0) d.1 next) ∙ d.6);
   differs = d;
 }
 
-pub illegal_by : AgreesAgain → (J : JournalOf) (error : ReplayErr) → DiffersAt error J.items → IsIllegal (replay_status error) J
+pub illegal_by : AgreesAgain → (J : JournalOf) (error : ReplayErr) → DiffersAt (reading_of J.version) error J.items → IsIllegal (replay_status error) J
 illegal_by again J (errors.Differs item statement) d = illegal_at again J item statement d
 illegal_by again J errors.Memory d = tt
 
 -- ---- the image of a legal journal
 
-entries_are : (h : List ℕ → List ℕ) (J : JournalOf) → length (image_of h statement_of J.database J.items).entries ≡ tx_count J.items
+entries_are : (h : List ℕ → List ℕ) (J : JournalOf) → length (image_of h (reading_of J.version) J.database J.items).entries ≡ tx_count J.items
 unfolding image_of
-entries_are h J = entries_counted h statement_of J.items
+entries_are h J = entries_counted h (reading_of J.version) J.items
 
+-- each cut of a journal, by the statements that the grammar may have written
 abbrev pub Verifies : Type 0
-Verifies = (h : List ℕ → List ℕ) (j : JournalOf) (m : ℕ) (digests : List HeldDigest) → IsLegalJournal statement_of j
-    → AllHeld h statement_of j.database (cut j.items m) digests → IsImage (image_of_cut h statement_of j.database j.items m)
-    → verdict_of h digests (image_bytes (image_of_cut h statement_of j.database j.items m)) ≡ Yes
+Verifies = (h : List ℕ → List ℕ) (reads : Reading) (j : JournalOf) (m : ℕ) (digests : List HeldDigest) → ReadsWritten reads → IsLegalJournal reads j
+    → AllHeld h reads j.database (cut j.items m) digests → IsImage (image_of_cut h reads j.database j.items m)
+    → verdict_of h digests (image_bytes (image_of_cut h reads j.database j.items m)) ≡ Yes
 
 -- what is said of each cut is said of the whole
-accepted_whole : (h : List ℕ → List ℕ) (J : JournalOf) → Verifies → IsLegalJournal statement_of J → IsImage (image_of h statement_of J.database J.items)
-    → IsAccepted h J (last_image_bytes h J)
-accepted_whole h J verifies legal spelling digests all_held =
-    let P : List JournalItem → Type 0 = λ items. AllHeld h statement_of J.database items digests → IsImage (image_of h statement_of J.database items)
-    → verdict_of h digests (image_bytes (image_of h statement_of J.database items)) ≡ Yes in
-    let at_cut : P (cut J.items (length J.items)) = verifies h J (length J.items) digests legal in
+accepted_whole : (h : List ℕ → List ℕ) (J : JournalOf) → Verifies → ReadsWritten (reading_of J.version) → IsLegalInVersion J
+    → IsImage (image_of h (reading_of J.version) J.database J.items) → IsAccepted h J (replayed_image h J)
+accepted_whole h J verifies written legal spelling digests all_held =
+    let reads : Reading = reading_of J.version in
+    let P : List JournalItem → Type 0 = λ items. AllHeld h reads J.database items digests → IsImage (image_of h reads J.database items)
+    → verdict_of h digests (image_bytes (image_of h reads J.database items)) ≡ Yes in
+    let at_cut : P (cut J.items (length J.items)) = verifies h reads J (length J.items) digests written legal in
     subst P (take_all (length J.items) J.items (omega arith)) at_cut all_held spelling
 
 module _ (h : List ℕ → List ℕ) (J : JournalOf) (bytes : List ℕ) where
-  made_is : (image : Image) → Verifies → IsSpelled J bytes → IsLegalJournal statement_of J → image ≡ image_of h statement_of J.database J.items → IsImage image
-      → IsImageOf h bytes image
-  made_is image verifies spelled legal made spelling = record {
+  made_is : (image : Image) → Verifies → ReadsWritten (reading_of J.version) → IsSpelled J bytes → IsLegalInVersion J
+      → image ≡ image_of h (reading_of J.version) J.database J.items → IsImage image → IsImageOf h bytes image
+  made_is image verifies written spelled legal made spelling = record {
     J = J;
     spelled = spelled;
     legal = legal;
     made = made;
     spelling = spelling;
     count = ap (λ (i : Image). length i.entries) made ∙ entries_are h J;
-    accepted = subst (λ (i : Image). IsAccepted h J (image_bytes i)) (sym made) (accepted_whole h J verifies legal (subst IsImage made spelling));
+    accepted = subst (λ (i : Image). IsAccepted h J (image_bytes i)) (sym made) (accepted_whole h J verifies written legal (subst IsImage made spelling));
   }
 
-  pub image_made : (result : Result Image Status) → Verifies → IsSpelled J bytes → OnOk result (IsLegalJournal statement_of J)
-      → IfOk result (λ image. image ≡ image_of h statement_of J.database J.items) → IfOk result IsImage → IfOk result (IsImageOf h bytes)
-  image_made (Ok image) verifies spelled legal made spelling = made_is image verifies spelled legal made spelling
-  image_made (Err status) verifies spelled legal made spelling = tt
+  pub image_made : (result : Result Image Status) → Verifies → ReadsWritten (reading_of J.version) → IsSpelled J bytes → OnOk result (IsLegalInVersion J)
+      → IfOk result (λ image. image ≡ image_of h (reading_of J.version) J.database J.items) → IfOk result IsImage → IfOk result (IsImageOf h bytes)
+  image_made (Ok image) verifies written spelled legal made spelling = made_is image verifies written spelled legal made spelling
+  image_made (Err status) verifies written spelled legal made spelling = tt
 
 -- ---- by cases on the status
 

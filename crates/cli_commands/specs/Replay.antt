@@ -7,7 +7,7 @@ use Rattle.sql_types.specs.declared.image.Image.{Image}
 use Rattle.sql_types.specs.declared.journal.Journal.{Journal}
 use Rattle.spec_model.specs.Journals.{tx_count}
 use Rattle.spec_model.specs.LegalJournals.{IsLegalJournal}
-use Rattle.spec_syntax.specs.Text.{statement_of}
+use Rattle.spec_syntax.specs.Text.{reading_of}
 use Rattle.format_journal.specs.Journal.{journal_bytes}
 use Rattle.format_journal.specs.Rules.{IsJournal}
 use Rattle.format_image.specs.Image.{image_of}
@@ -18,7 +18,6 @@ use Rattle.law_accepts.specs.Held.{AllHeld}
 use Rattle.audit_replay.specs.Reached.{DiffersAt}
 use Rattle.audit_replay.specs.declared.running.ReplayErr.{ReplayErr}
 use Rattle.audit_replay.specs.declared.running.ReplayErr.TheVariants as errors
-use Rattle.workload_run.specs.Agreed.{last_image_bytes}
 use Rattle.cli_commands.specs.declared.files.File.{File}
 use Rattle.cli_commands.specs.declared.status.Status.{Status}
 use Rattle.cli_commands.specs.declared.status.Status.TheVariants as status
@@ -47,11 +46,15 @@ AreRefused (status.Journal None) bytes = SpellsNone bytes
 AreRefused status.Memory bytes = Unit {0}
 AreRefused _ bytes = ⊥
 
+-- it is legal, where a text is the statement that it is in journals of its version
+abbrev pub IsLegalInVersion : Journal → Type 0
+IsLegalInVersion J = IsLegalJournal (reading_of J.version) J
+
 -- this statement of this item, both from 0, is the first that is answered otherwise when the journal is run
 -- again, so it isn't legal
 pub record IsIllegalAt (J : Journal) (item statement : ℕ) : Type 0 where
-  pub not_legal : IsLegalJournal statement_of J → ⊥
-  pub differs : DiffersAt (errors.Differs item statement) J.items
+  pub not_legal : IsLegalInVersion J → ⊥
+  pub differs : DiffersAt (reading_of J.version) (errors.Differs item statement) J.items
 
 -- why a journal has no image
 abbrev pub IsIllegal : Status → Journal → Type 0
@@ -74,13 +77,17 @@ pub record JournalUnder (name : List ℕ) (names : Option Names) (Such : Journal
 
 -- a legal journal stands under the name
 abbrev pub LegalUnder : List ℕ → Option Names → Type 0
-LegalUnder name names = JournalUnder name names (IsLegalJournal statement_of)
+LegalUnder name names = JournalUnder name names IsLegalInVersion
 
 -- ---- what is put and written
 
+-- the bytes of the image to which a journal leads
+abbrev pub replayed_image : (List ℕ → List ℕ) → Journal → List ℕ
+replayed_image h J = image_bytes (image_of h (reading_of J.version) J.database J.items)
+
 -- what is saved under a name, in the order in which it is put
 abbrev pub replayed_files : (List ℕ → List ℕ) → List ℕ → Journal → List File
-replayed_files h save J = image_file save (last_image_bytes h J) ∷ journal_file save J ∷ []
+replayed_files h save J = image_file save (replayed_image h J) ∷ journal_file save J ∷ []
 
 -- the line of so many transactions
 abbrev pub replayed_text : ℕ → List ℕ
@@ -96,7 +103,7 @@ pub record SavesReplay (ended : Status) (h : List ℕ → List ℕ) (name save :
 -- whoever holds digests of blocks that the journal closed gets Yes for these bytes
 abbrev pub IsAccepted : (List ℕ → List ℕ) → Journal → List ℕ → Type 0
 IsAccepted h J image =
-    (digests : List HeldDigest) → AllHeld h statement_of J.database J.items digests
+    (digests : List HeldDigest) → AllHeld h (reading_of J.version) J.database J.items digests
     → verdict_of h digests image ≡ Yes
 
 -- the image that was put is accepted with any digests of blocks that the legal journal under the name closed
@@ -117,8 +124,8 @@ pub record HasOutput (save journal image : List ℕ) (count : ℕ)
 pub record IsImageOf (h : List ℕ → List ℕ) (bytes : List ℕ) (image : Image) : Type 0 where
   pub J : Journal
   pub spelled : IsSpelled J bytes
-  pub legal : IsLegalJournal statement_of J
-  pub made : image ≡ image_of h statement_of J.database J.items
+  pub legal : IsLegalInVersion J
+  pub made : image ≡ image_of h (reading_of J.version) J.database J.items
   pub spelling : IsImage image
   pub count : length image.entries ≡ tx_count J.items
   pub accepted : IsAccepted h J (image_bytes image)

@@ -3,14 +3,13 @@
 ghost use Rattle.std.specs.Prelude.{⊤, ◌≡◌, ◌⊎◌, length, string_bytes, IfOk, IfErr, IfSome, OnOk};
 ghost use Rattle.base_io.specs.Count.{Rises};
 ghost use Rattle.base_io.specs.History.{Since};
-ghost use Rattle.spec_model.specs.LegalJournals.{IsLegalJournal};
-ghost use Rattle.spec_syntax.specs.Text.{statement_of};
+ghost use Rattle.spec_syntax.specs.Text.{reading_of};
 ghost use Rattle.format_journal.specs.Rules.{IsJournal};
 ghost use Rattle.format_image.specs.Image.{image_of};
 ghost use Rattle.format_image.specs.ImageBytes.{image_bytes, IsImage};
 ghost use Rattle.cli_commands.specs.Answer.{Unfailed};
 ghost use Rattle.cli_commands.specs.Calls.{Gave, AreGets, AreGetsAndPuts, AreWrites};
-ghost use Rattle.cli_commands.specs.Replay.{IsUnderName, IsSpelled, AreRefused, IsIllegal, IsImageOf, LacksImage};
+ghost use Rattle.cli_commands.specs.Replay.{IsUnderName, IsSpelled, AreRefused, IsLegalInVersion, IsIllegal, IsImageOf, LacksImage};
 ghost use Rattle.cli_commands.specs.Replay.{HasOutput, replayed_text, SavesReplay, ReplayedOrIdle, PutsAccepted};
 ghost use Rattle.cli_commands.specs.Replay.{LacksReplay, ReplayCause, replay_status};
 
@@ -25,6 +24,7 @@ use base_types::{Items, Memory};
 use format_image::Image;
 use format_journal::{Journal, read_journal};
 use law_accepts::images_of_legal_journals_verify;
+use law_catalog_text::readings_of_the_grammar_give_written;
 use sql_reference::run_agrees_with_legal_items;
 use std::alloc::{AllocError, Global};
 
@@ -55,9 +55,9 @@ fn status_of(error: ReplayErr) -> Status
 /// The image to which a journal leads, where it is legal.
 fn run_again<H: Hash32>(alloc: Global, h: H, journal: &Journal) -> Result<Image, Status>
     requires { IsJournal journal.now }
-    ensures legal { OnOk result (IsLegalJournal statement_of journal.now) }
-    ensures made { IfOk result
-        (λ image. image ≡ image_of (H.digest h) statement_of journal.now.database journal.now.items) }
+    ensures legal { OnOk result (IsLegalInVersion journal.now) }
+    ensures made { IfOk result (λ image. image
+        ≡ image_of (H.digest h) (reading_of journal.now.version) journal.now.database journal.now.items) }
     ensures spelling { IfOk result IsImage }
     ensures illegal { IfErr result (λ status. IsIllegal status journal.now) }
 {
@@ -74,6 +74,7 @@ fn image_of_bytes<H: Hash32>(alloc: Global, h: H, bytes: &[u8]) -> Result<Image,
     ensures lacks { IfErr result (λ status. LacksImage status bytes.now) }
 {
     images_of_legal_journals_verify();
+    readings_of_the_grammar_give_written();
     let journal = journal_of(alloc, bytes)?;
     run_again(alloc, h, &journal)
 }

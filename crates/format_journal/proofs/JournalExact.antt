@@ -1,6 +1,6 @@
 -- Journals are read exactly as they are written.
 use Rattle.std.proofs.Common.{◌≡◌, ◌<◌, ◌^◌, ℕ, Bool, true, false, cond, List, [], ◌∷◌, ◌++◌, length, Some, Option, None, refl, sym, ap, subst, ◌∙◌, arith}
-use Rattle.std.specs.Prelude.{IfSome, codes, ◌==◌}
+use Rattle.std.specs.Prelude.{IfSome, codes, ◌==◌, ◌||◌}
 use Rattle.std.specs.List.{AllByRecursion}
 use Rattle.std.specs.Str.{is_utf8}
 use Rattle.std.proofs.lemmas.List.{append-nil}
@@ -238,7 +238,11 @@ unfolding version_at
 version_exact = where_exact (λ (n : ℕ). n < 256) u8_field is_version u8_at u8_exact
 
 small_version : (n : ℕ) → is_version n ≡ true → n < 256
-small_version n e = let same : n ≡ 1 = eqb-true n 1 e in omega (arith, same)
+small_version n e = here (n == 1) refl e
+  where
+    here : (first : Bool) → (n == 1) ≡ first → (first || n == 2) ≡ true → n < 256
+    here true is e = omega (arith, eqb-true n 1 is)
+    here false is e = omega (arith, eqb-true n 2 e)
 
 together : (items : List JournalItem) → ids_differ [] items ≡ true → closes_follow 0 items ≡ true
     → are_consistent items ≡ true

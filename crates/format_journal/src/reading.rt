@@ -4,6 +4,7 @@ ghost use Rattle.std.specs.Prelude.{◌≡◌, Some, IfOk, IfSome};
 ghost use Rattle.base_fields.specs.Readers.{times};
 ghost use Rattle.base_fields.specs.Reading.{Finds, ReadsAs};
 ghost use Rattle.sql_types.specs.declared.journal.Journal.{Journal};
+ghost use Rattle.sql_types.specs.Versions as versions;
 ghost use Rattle.format_journal.specs.Journal.{journal_bytes};
 ghost use Rattle.format_journal.specs.Rules.{IsJournal};
 ghost use Rattle.format_journal.specs.JournalReading.{journal_at, version_at, items_at, item_at, item_behind, tx_at, close_at, run_at, opened_at, script_at, statement_at, text_at};
@@ -14,7 +15,7 @@ use base_fields::{
     wide_at,
 };
 use base_types::{Items, Memory, Text};
-use sql_types::{JOURNAL_VERSION, Journal, JournalItem, MAX_BLOCK, Script};
+use sql_types::{Journal, JournalItem, MAX_BLOCK, Script};
 use std::alloc::Global;
 
 /// The journal whose bytes these are, all of them, or None exactly where they are those of no journal that
@@ -45,12 +46,19 @@ fn journal_at(alloc: Global, bytes: &[u8]) -> Result<(Journal, &[u8]), ReadError
     Ok((journal, rest))
 }
 
+// Whether there are journals of the version.
+fn is_version(version: u8) -> bool
+    ensures { result ≡ versions.is_version version }
+{
+    matches!(version, 1 | 2)
+}
+
 #[tactic(auto, unfolding(crate::specs::JournalReading::version_at))]
 fn version_at(bytes: &[u8]) -> Result<(u8, &[u8]), ReadError>
     ensures { Finds (λ x. (x.0, x.1.now)) result (version_at bytes.now) }
 {
     let (version, rest) = u8_at(bytes)?;
-    if version != JOURNAL_VERSION {
+    if !is_version(version) {
         return Err(ReadError::Malformed);
     }
     Ok((version, rest))

@@ -15,7 +15,7 @@ use Rattle.spec_model.specs.Changes.{Change, Starts, Ends, changed}
 use Rattle.spec_model.specs.Effect.{Effect, effect, with_def}
 use Rattle.spec_model.specs.Journals.{cut, tx_count, after_item, serial_from, serial, IsNext, IsLegalFrom, IsLegal}
 use Rattle.spec_model.specs.Lists.{inserted}
-use Rattle.spec_model.specs.ChangeSets.{TableChange, changed_in, changed_from, Definition, as_before, new, in_place, defined, ChangeSet, change_set}
+use Rattle.spec_model.specs.ChangeSets.{TableChange, changed_in, changed_from, Definition, as_before, new, in_place, altered, defined, ChangeSet, change_set}
 use Rattle.spec_model.specs.Rows.{EventId, same_event, start_cmp, started, with_end, ended}
 use Rattle.spec_model.specs.Script.{Reading, script}
 use Rattle.spec_model.specs.SystemTables.{first_tables}
@@ -117,6 +117,7 @@ definition_before : (d : Definition) (T : Tables) → TablesFitFormat (defined d
 definition_before as_before T r = r
 definition_before (new def) T r = front_of TableFitsFormat T (record { def = def; versions = [] } ∷ []) r
 definition_before (in_place def) T r = redefined_before def T r
+definition_before (altered def) T r = redefined_before def T r
 
 -- ---- statements and scripts
 

@@ -15,10 +15,10 @@ use Rattle.sql_types.specs.declared.version.Table.{Table}
 use Rattle.sql_types.specs.declared.version.Version.{Version}
 use Rattle.spec_model.specs.Catalog.{Tables, with_versions}
 use Rattle.spec_model.specs.Changes.{Change, Starts, Ends, changed}
-use Rattle.spec_model.specs.Effect.{Effect, effect, with_def}
+use Rattle.spec_model.specs.Effect.{Effect, effect, with_def, redefined}
 use Rattle.spec_model.specs.Events.{events_of}
 use Rattle.spec_model.specs.Lists.{inserted, sorted}
-use Rattle.spec_model.specs.ChangeSets.{TableChange, changed_in, changed_from, Definition, as_before, new, in_place, defined, ChangeSet, change_set}
+use Rattle.spec_model.specs.ChangeSets.{TableChange, changed_in, changed_from, Definition, as_before, new, in_place, altered, defined, ChangeSet, change_set}
 use Rattle.spec_model.specs.Rows.{EventId, same_event, start_cmp, started, with_end, ended}
 use Rattle.spec_model.specs.Script.{Reading, script}
 use Rattle.law_frame.proofs.ChangeSets.{carries_change_set_out}
@@ -164,12 +164,16 @@ module _ (h : List ℕ → List ℕ) (place : ℕ → ℕ) (tx other : ℕ) (dif
       record { id = same; events = ap (λ (id : ℕ). sorted (λ (a b : Event). nat_cmp a.seq b.seq) (of_all tx id t.versions)) same }
   redefined_alike def false t e = record { id = refl; events = refl }
 
+  redefined_leaves : (def : TableDef) (T : Tables) → roots_of h tx (redefined def T) ≡ roots_of h tx T
+  redefined_leaves def T =
+      all_alike h tx (λ t. if t.def.id == def.id then with_def def t else t) T
+      (all_of_them (λ t. Same h tx t (if t.def.id == def.id then with_def def t else t)) (λ t. redefined_alike def (t.def.id == def.id) t refl) T)
+
   definition_leaves : (d : Definition) (T : Tables) → roots_of h tx (defined d T) ≡ roots_of h tx T
   definition_leaves as_before T = refl
   definition_leaves (new def) T = empty_last h tx def T
-  definition_leaves (in_place def) T =
-      all_alike h tx (λ t. if t.def.id == def.id then with_def def t else t) T
-      (all_of_them (λ t. Same h tx t (if t.def.id == def.id then with_def def t else t)) (λ t. redefined_alike def (t.def.id == def.id) t refl) T)
+  definition_leaves (in_place def) T = redefined_leaves def T
+  definition_leaves (altered def) T = redefined_leaves def T
 
   statement_leaves : (seq : ℕ) (T : Tables) (stmt : Stmt) → Kept place other seq T → Described T → roots_of h tx (effect T other seq stmt).tables ≡ roots_of h tx T
   statement_leaves seq T stmt k d =

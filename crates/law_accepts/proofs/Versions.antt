@@ -19,16 +19,14 @@ use Rattle.spec_model.specs.Catalog.{Tables, defs_of, versions_of}
 use Rattle.spec_model.specs.Checks.{is_append_only}
 use Rattle.spec_model.specs.Journals.{serial, IsLegal}
 use Rattle.spec_model.specs.Keys.{Key, same_key, version_key, of_key}
-use Rattle.spec_model.specs.Rows.{EventId, same_event, live}
+use Rattle.spec_model.specs.Rows.{EventId, same_event, live, filled_stored}
 use Rattle.spec_model.specs.Script.{Reading}
 use Rattle.spec_model.specs.SystemTables.{columns_columns, columns_id}
 use Rattle.law_frame.proofs.Alls.{all_weaker, all_both, all_append, all_filter, all_pass}
 use Rattle.law_frame.proofs.SameKeys.{and_true}
-use Rattle.law_catalog_rows.specs.Encoded.{EachHasItsRows, IsAmong, about, item_rows, live_rows}
-use Rattle.law_catalog_rows.specs.Formed.{AllFormed, Formed}
-use Rattle.law_catalog_rows.proofs.Journals.{legal_described, legal_rows_each}
-use Rattle.law_catalog_time.specs.AfterColumns.{AllStartAfterColumns, IsKeyOfColumn, StartsAfterColumns, VersionsFollowColumns}
-use Rattle.law_catalog_time.proofs.Journals.{legal_follows}
+use Rattle.law_catalog_rows.specs.Formed.{AreInFront}
+use Rattle.law_catalog_time.specs.AsOfStart.{TakeFrom, AllRespectColumns, VersionsRespectColumns}
+use Rattle.law_catalog_time.proofs.Journals.{legal_respects}
 use Rattle.law_journal.specs.AppendOnly.{KeepsRows, AllKeepRows}
 use Rattle.law_journal.specs.Fits.{FitsColumn, Fits}
 use Rattle.law_journal.specs.Kept.{IsEarlier, EndedBefore, Apart, AllApart}
@@ -41,13 +39,13 @@ use Rattle.format_image.specs.Rows.{Stored, ended_ones, filled_table, filled_ver
 use Rattle.spec_verify.specs.Entries.{least_event}
 use Rattle.spec_verify.specs.Order.{position_of, is_before, is_earlier, later_of, latest, ends_before, ends_well, follows, before, is_in_order, shares_key}
 use Rattle.spec_verify.specs.Versions.{same_type, is_of, has_columns, respects_columns, respects_from, respects_not_null, rows_of_columns, with_columns, version_holds, bad_versions, version_fault}
-use Rattle.law_accepts.proofs.Columns.{all_known, respected}
+use Rattle.law_accepts.proofs.Columns.{respected}
 use Rattle.law_accepts.proofs.Definitions.{second_whole}
 use Rattle.law_accepts.proofs.FilledTables.{filled_tables, all_filled, all_fit, filled_fits, keep_rows, tables_filled}
 use Rattle.law_accepts.proofs.Firsts.{both}
 use Rattle.law_accepts.proofs.Ids.{none_left, same_place}
 use Rattle.law_accepts.proofs.Indexes.{own_type}
-use Rattle.law_accepts.proofs.Shown.{in_parts, tables_shown}
+use Rattle.law_accepts.proofs.Shown.{in_front, in_parts, tables_shown}
 
 -- ---- columns
 
@@ -82,6 +80,11 @@ all_kept columns (v ∷ vs) fit = rw (columns_fit columns v.values fit.0, all_ke
 -- each version of the table has a value for each column
 abbrev AllFit : Table → Type 0
 AllFit t = AllByRecursion (λ v. Fits t.def.columns v.values) t.versions
+
+-- no version has an end
+all_live : (vs : List Version) → AllByRecursion (λ v. v.end ≡ None) vs → live vs ≡ vs
+all_live [] h = refl
+all_live (v ∷ vs) h = rw (h.0, all_live vs h.1) refl
 
 -- NULL stands where it may in each version of the table
 abbrev AllRespect : List TxEntry → List Version → Table → Type 0
@@ -284,65 +287,40 @@ module _ (items : List JournalItem) (entries : List TxEntry) (same : (id : ℕ) 
   as_of_start : (second : List Version) (def : TableDef) (v : Version) → columns_id < def.id → respects_from entries second def.id 1 v.start v.values ≡ true → respects_columns entries second def v ≡ true
   as_of_start second def v lt e = ap (λ (b : Bool). if b then respects_not_null def.columns v.values else respects_from entries second def.id 1 v.start v.values) (lt-leb def.id columns_id lt) ∙ e
 
-  module _ (all : List Version) (fit : AllByRecursion (λ v. Fits columns_columns v.values) all) where
-    abbrev rows : List Version
-    rows = live all
-
-    rows_fit : AllByRecursion (λ (r : Version). has_columns columns_columns r.values ≡ true) rows
-    rows_fit = all_filter (λ (r : Version). has_columns columns_columns r.values ≡ true) _ all (all_weaker (λ v. Fits columns_columns v.values) (λ (r : Version). has_columns columns_columns r.values ≡ true) (λ v f. columns_fit columns_columns v.values f) all fit)
-
-    respects_rows : (t : Table) → AllFit t → (2 < t.def.id → (length t.def.columns ≤ 64) × IsPermutation (about (pos t.def.id) (live_rows all)) (item_rows t.def)) → AllStartAfterColumns place all t → AllRespect entries rows t
-    respects_rows t whole rows_are after = elim (cases_lt columns_id t.def.id) [
-      | inr le ↦ all_weaker (λ v. Fits t.def.columns v.values) (λ v. respects_columns entries rows t.def v ≡ true) (λ v fits. as_defined rows t.def v le fits) t.versions whole
-      | inl lt ↦
-          (let h = rows_are lt in
-          let known = all_known rows rows_fit t.def h.0 h.1 in
-          all_weaker (λ v. Fits t.def.columns v.values × StartsAfterColumns place all t.def.id v) (λ v. respects_columns entries rows t.def v ≡ true)
-          (λ v g. as_of_start rows t.def v lt
-          (respected entries place by_test rows t.def.id v
-          (all_filter (λ w. IsKeyOfColumn t.def.id (version_key columns_columns w) → IsEarlier place w.start v.start) _ all g.1)
-          1 t.def.columns v.values known g.0))
-          t.versions
-          (all_both (λ v. Fits t.def.columns v.values) (StartsAfterColumns place all t.def.id) t.versions whole (after lt)))
+  module _ (second : List Version) (fit : AllByRecursion (λ (r : Version). has_columns columns_columns r.values ≡ true) second) where
+    -- the versions of a table when they are filled, which start where they did
+    filled_respects : (t : Table) → TableOf items t → AllRespectColumns place second t → AllRespect entries second (filled_table t)
+    filled_respects t is respect = elim (cases_lt columns_id t.def.id) [
+      | inr le ↦ all_weaker (λ v. Fits t.def.columns v.values) (λ v. respects_columns entries second t.def v ≡ true) (λ v fits. as_defined second t.def v le fits)
+          (filled_table t).versions (filled_fits t.def.columns t.versions is.fit)
+      | inl lt ↦ all_filled t.def.columns (λ v. TakeFrom place second t.def.id v.start 1 (filled_stored t.def.columns v.values)) (λ v. respects_columns entries second t.def v ≡ true)
+          (λ v takes. as_of_start second t.def (filled_version t.def.columns v) lt (respected entries place by_test from_test second fit t.def.id v.start 1 (filled_stored t.def.columns v.values) takes))
+          t.versions (respect lt)
     ]
 
-    -- so do the versions of a table when they are filled, which start where they did
-    filled_respects : (t : Table) → TableOf items t → (2 < t.def.id → (length t.def.columns ≤ 64) × IsPermutation (about (pos t.def.id) (live_rows all)) (item_rows t.def)) → AllStartAfterColumns place all t
-        → AllRespect entries rows (filled_table t)
-    filled_respects t is rows_are after =
-        respects_rows (filled_table t) (filled_fits t.def.columns t.versions is.fit) rows_are
-        (λ lt. all_filled t.def.columns (StartsAfterColumns place all t.def.id) (StartsAfterColumns place all t.def.id) (λ v s. s) t.versions (after lt))
+    filled_respect : (ts : Tables) → AllByRecursion (TableOf items) ts → AllByRecursion (AllRespectColumns place second) ts → AllByRecursion (AllRespect entries second) (filled_tables ts)
+    filled_respect [] is respect = tt
+    filled_respect (t ∷ ts) is respect = (filled_respects t is.0 respect.0, filled_respect ts is.1 respect.1)
 
-    users_respect : (ts : Tables) → AllByRecursion (TableOf items) ts
-        → ((def : TableDef) → IsAmong def (defs_of ts) → IsPermutation (about (pos def.id) (live_rows all)) (item_rows def))
-        → AllByRecursion (λ (def : TableDef). 2 < def.id → Formed def) (defs_of ts) → AllByRecursion (AllStartAfterColumns place all) ts → AllByRecursion (AllRespect entries rows) (filled_tables ts)
-    users_respect [] is each formed after = tt
-    users_respect (t ∷ ts) is each formed after = (
-      filled_respects t is.0 (λ lt. ((formed.0 lt).count, each t.def (inl refl))) after.0,
-      users_respect ts is.1 (λ def among. each def (inr among)) formed.1 after.1,
-    )
-
-  all_respect : (T : Tables) → AllByRecursion (TableOf items) T → EachHasItsRows T → AllFormed (defs_of T) → VersionsFollowColumns place T
+  -- the rows of the table of columns are all in its base, with a value for each column
+  all_respect : (T : Tables) → AllByRecursion (TableOf items) T → AreInFront (defs_of T) → AllKeepRows T → VersionsRespectColumns place T
       → AllByRecursion (AllRespect entries (rows_of_columns (map table_rows T))) (filled_tables T)
   unfolding table_rows
-  all_respect [] is each formed after = absurd each
-  all_respect (a ∷ []) is each formed after = absurd each
-  all_respect (a ∷ b ∷ users) is each formed after =
-      let first : a.def.id ≡ 1 = ap (λ (d : TableDef). d.id) formed.system.0 in
-      let second : b.def.id ≡ columns_id = ap (λ (d : TableDef). d.id) formed.system.1 in
+  all_respect [] is front keep respect = absurd front
+  all_respect (a ∷ []) is front keep respect = absurd front
+  all_respect (a ∷ b ∷ users) is front keep respect =
+      let first : a.def.id ≡ 1 = ap (λ (d : TableDef). d.id) front.0 in
+      let second : b.def.id ≡ columns_id = ap (λ (d : TableDef). d.id) front.1 in
       let all : List Version = b.versions in
-      let full : map (filled_version b.def.columns) all ≡ all = second_whole items b formed.system.1 is.1.0 in
+      let full : map (filled_version b.def.columns) all ≡ all = second_whole items b front.1 is.1.0 in
+      let none_ended : live all ≡ all = all_live all (keep.1.0 (ap (λ (d : TableDef). d.kind) front.1)) in
       let found : versions_of (a ∷ b ∷ users) columns_id ≡ all = rw (first, second) refl in
       let own : AllByRecursion (λ v. Fits b.def.columns v.values) all = subst (λ (vs : List Version). AllByRecursion (λ v. Fits b.def.columns v.values) vs) full (filled_fits b.def.columns all is.1.0.fit) in
-      let fit : AllByRecursion (λ v. Fits columns_columns v.values) all = subst (λ (d : TableDef). AllByRecursion (λ v. Fits d.columns v.values) all) formed.system.1 own in
-      let follow : AllByRecursion (AllStartAfterColumns place all) (a ∷ b ∷ users) = subst (λ (vs : List Version). AllByRecursion (AllStartAfterColumns place vs) (a ∷ b ∷ users)) found after in
-      subst (λ (vs : List Version). AllByRecursion (AllRespect entries (live vs)) (filled_tables (a ∷ b ∷ users))) (sym full) (
-        filled_respects all fit a is.0 (λ lt. absurd (omega (arith, first, lt))) follow.0,
-        (
-          filled_respects all fit b is.1.0 (λ lt. absurd (omega (arith, second, lt))) follow.1.0,
-          users_respect all fit users is.1.1 (λ def among. (each.one def among).items) formed.each.1.1 follow.1.1,
-        ),
-      )
+      let fit : AllByRecursion (λ (r : Version). has_columns columns_columns r.values ≡ true) all =
+      all_weaker (λ v. Fits columns_columns v.values) (λ (r : Version). has_columns columns_columns r.values ≡ true) (λ v f. columns_fit columns_columns v.values f) all
+      (subst (λ (d : TableDef). AllByRecursion (λ v. Fits d.columns v.values) all) front.1 own) in
+      subst (λ (vs : List Version). AllByRecursion (AllRespect entries vs) (filled_tables (a ∷ b ∷ users))) (sym (ap live full ∙ none_ended))
+      (filled_respect all fit (a ∷ b ∷ users) is (subst (λ (vs : List Version). AllByRecursion (AllRespectColumns place vs) (a ∷ b ∷ users)) found respect))
 
 pub versions_hold : (h : List ℕ → List ℕ) (reads : Reading) (database : List ℕ) (items : List JournalItem) → IsLegal reads items → version_fault (image_of h reads database items) ≡ None
 unfolding image_of version_fault
@@ -351,7 +329,8 @@ versions_hold h reads database items legal =
     let entries : List TxEntry = entries_of h reads items in
     let second : List Version = rows_of_columns (map table_rows T) in
     let each = (legal_tables reads items legal).each in
+    let keep : AllKeepRows T = legal_keeps_rows reads items legal in
     ap least_event
     (ap (λ (shown : Tables). flat_map (bad_versions entries second) shown) (tables_shown h reads database items legal)
-    ∙ no_bad items entries (same_place h reads items legal) second (filled_tables T) (tables_filled items T each) (all_fit items T each) (keep_rows T (legal_keeps_rows reads items legal))
-    (all_respect items entries (same_place h reads items legal) T each (legal_rows_each reads items legal) (legal_described reads items legal).1 (legal_follows reads items legal)))
+    ∙ no_bad items entries (same_place h reads items legal) second (filled_tables T) (tables_filled items T each) (all_fit items T each) (keep_rows T keep)
+    (all_respect items entries (same_place h reads items legal) T each (in_front h reads database items legal) keep (legal_respects reads items legal)))

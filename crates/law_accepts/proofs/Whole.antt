@@ -17,7 +17,7 @@ use Rattle.law_blocks.specs.Digests.{digest_of}
 use Rattle.spec_ledger.specs.Ledger.{block_hash}
 use Rattle.law_blocks.proofs.Staying.{hash_stays}
 use Rattle.format_image.specs.Image.{image_of, image_of_cut}
-use Rattle.format_image.specs.ImageBytes.{image_bytes, image_bytes_1, IsImage, NothingGone}
+use Rattle.format_image.specs.ImageBytes.{image_bytes, image_bytes_1, IsImage, IsImage1}
 use Rattle.spec_verify.specs.declared.place.Verdict.TheVariants.{Yes}
 use Rattle.spec_verify.specs.Bytes.{verdict_of}
 use Rattle.spec_verify.specs.Verdict.{AllHold}
@@ -75,9 +75,9 @@ module _ (h : List ℕ → List ℕ) (reads : Reading) where
       ∙ (yes_exactly h i digests).1 (all_hold j.database (cut j.items m) digests written (cut_legal reads j.items m legal.legal) all_held)
 
   pub verifies_1 : (j : Journal) (m : ℕ) (digests : List HeldDigest) → ReadsWritten reads → IsLegalJournal reads j → AllHeld h reads j.database (cut j.items m) digests
-      → IsImage (image_of_cut h reads j.database j.items m) → NothingGone (image_of_cut h reads j.database j.items m)
+      → IsImage1 (image_of_cut h reads j.database j.items m)
       → verdict_of h digests (image_bytes_1 (image_of_cut h reads j.database j.items m)) ≡ Yes
-  verifies_1 j m digests written legal all_held is_image nothing_gone =
+  verifies_1 j m digests written legal all_held is_image =
       let i : Image = image_of_cut h reads j.database j.items m in
-      of_two_spellings h digests (image_bytes_1 i) (image_bytes i) i is_image (inr (nothing_gone, refl)) (inl refl)
-      ∙ verifies j m digests written legal all_held is_image
+      of_two_spellings h digests (image_bytes_1 i) (image_bytes i) i is_image.0 (inr (is_image.1, refl)) (inl refl)
+      ∙ verifies j m digests written legal all_held is_image.0

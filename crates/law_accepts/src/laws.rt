@@ -15,7 +15,7 @@ ghost use Rattle.law_catalog_rows.specs.Written.{ReadsWritten};
 ghost use Rattle.law_blocks.specs.Digests.{digest_of};
 ghost use Rattle.spec_ledger.specs.Ledger.{block_hash};
 ghost use Rattle.format_image.specs.Image.{image_of, image_of_cut};
-ghost use Rattle.format_image.specs.ImageBytes.{image_bytes, image_bytes_1, IsImage};
+ghost use Rattle.format_image.specs.ImageBytes.{image_bytes, image_bytes_1, IsImage, IsImage1};
 ghost use Rattle.law_image.specs.Room.{FitsImageFormat};
 ghost use Rattle.spec_verify.specs.declared.place.Verdict.TheVariants.{Yes};
 ghost use Rattle.spec_verify.specs.Blocks.{digest_fault, chain_fault, block_fault};
@@ -28,7 +28,7 @@ ghost use Rattle.spec_verify.specs.Versions.{version_fault};
 ghost use Rattle.law_accepts.specs.Held.{held, IsHeld, AllHeld};
 
 use law_catalog_text::readings_of_the_grammar_give_written;
-use law_image::{legal_images_are_encodable, legal_images_have_nothing_gone};
+use law_image::legal_images_are_encodable;
 
 // ---- digests
 
@@ -123,7 +123,7 @@ pub fn cuts_have_room_where_journals_have()
 /// blocks that are closed there, is Yes. The image has to have a spelling, which the journal alone doesn't
 /// give; of the statements that the parser reads it has one where the cut, or the whole journal, has room in the
 /// format. The statements are those, or those of another reading, where the grammar may have written each. So it is
-/// in version 2 of the format, and in version 1 too.
+/// in version 2 of the format, and where nothing in the image was dropped in version 1 too.
 pub fn images_of_legal_journals_verify()
     ensures parsed { (h : List ℕ → List ℕ) (j : Journal) (m : ℕ) (digests : List HeldDigest)
         → IsLegalJournal statement_of j
@@ -149,10 +149,9 @@ pub fn images_of_legal_journals_verify()
         (digests : List HeldDigest)
         → ReadsWritten reads → IsLegalJournal reads j
         → AllHeld h reads j.database (cut j.items m) digests
-        → IsImage (image_of_cut h reads j.database j.items m)
+        → IsImage1 (image_of_cut h reads j.database j.items m)
         → verdict_of h digests (image_bytes_1 (image_of_cut h reads j.database j.items m)) ≡ Yes }
 {
     readings_of_the_grammar_give_written();
     legal_images_are_encodable();
-    legal_images_have_nothing_gone();
 }

@@ -11,7 +11,7 @@ use Rattle.sql_types.specs.declared.version.Version.{Version}
 use Rattle.spec_model.specs.Catalog.{Tables, versions_of, with_versions}
 use Rattle.spec_model.specs.Changes.{Change, Starts, Ends, changed}
 use Rattle.spec_model.specs.Effect.{Effect, effect}
-use Rattle.spec_model.specs.ChangeSets.{TableChange, changed_in, changed_from, Definition, as_before, new, in_place, defined, ChangeSet, change_set}
+use Rattle.spec_model.specs.ChangeSets.{TableChange, changed_in, changed_from, Definition, as_before, new, in_place, altered, defined, ChangeSet, change_set}
 use Rattle.spec_model.specs.Rows.{EventId, same_event, start_cmp, started, with_end, ended}
 use Rattle.spec_model.specs.Script.{Reading, script}
 use Rattle.law_frame.proofs.AtTable.{new_table, redefined_table}
@@ -112,6 +112,7 @@ module _ (has : ℕ → Bool) (other : ℕ) (none : has other ≡ false) where
     definition_leaves as_before T = refl
     definition_leaves (new def) T = ap (left_of has) (new_table def id T)
     definition_leaves (in_place def) T = ap (left_of has) (redefined_table def id T)
+    definition_leaves (altered def) T = ap (left_of has) (redefined_table def id T)
 
     statement_leaves : (seq : ℕ) (T : Tables) (stmt : Stmt) → Kept place other seq T → Described T → At (effect T other seq stmt).tables ≡ At T
     statement_leaves seq T stmt k d =

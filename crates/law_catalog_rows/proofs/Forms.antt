@@ -13,29 +13,33 @@ use Rattle.sql_value.specs.declared.refusal.Refusal.{Refusal}
 use Rattle.sql_value.specs.declared.refusal.Refusal.TheVariants.{NoSuchTable, NameConflict, NoSuchColumn, NullNotAllowed, ReadOnlyTable, LimitExceeded}
 use Rattle.sql_types.specs.declared.table.TableDef.{TableDef}
 use Rattle.sql_types.specs.declared.table.IndexDef.{IndexDef}
+use Rattle.sql_types.specs.declared.table.Part.{Part}
+use Rattle.sql_types.specs.declared.table.Part.TheVariants.{Base, History, View, System}
 use Rattle.sql_types.specs.declared.statement.CreateTable.{CreateTable}
 use Rattle.sql_types.specs.declared.statement.CreateIndex.{CreateIndex}
-use Rattle.spec_model.specs.Lists.{has_name, repeats}
+use Rattle.spec_model.specs.Lists.{has_name, repeats, numbered}
 use Rattle.spec_model.specs.Limits.{max_key_columns, max_columns}
 use Rattle.spec_model.specs.Catalog.{Defs, Tables, defs_of, find_part}
-use Rattle.spec_model.specs.Checks.{refused_if, is_declared}
+use Rattle.spec_model.specs.Checks.{refused_if, is_standing, is_declared}
+use Rattle.spec_model.specs.LiveColumns.{live_columns}
 use Rattle.spec_model.specs.Create.{names_of, table_names, all_names, is_ledger_name, history_of, key_position_of, keyed, table_def, has_bad_name, exceeds_limit, has_null_key, next_id, create_check, index_def, index_check_in, index_check, ordinal_at, ordinals_of, with_index}
 use Rattle.spec_model.specs.Agreement.{IdsFrom}
 use Rattle.law_frame.proofs.Alls.{all_weaker, all_both, all_append, all_map}
+use Rattle.law_frame.proofs.BaseTables.{found_is_users}
 use Rattle.law_frame.proofs.Checked.{Led, led}
+use Rattle.law_frame.proofs.NamedPart.{was_found}
 use Rattle.law_frame.proofs.SameKeys.{or_false, and_true}
 use Rattle.spec_model.specs.Columns.{place_of}
 use Rattle.spec_model.specs.Refusals.{or_refused}
 use Rattle.std.specs.Str.{bytes_eq}
-use Rattle.std.specs.Bool.{Decides}
-use Rattle.std.proofs.lemmas.Slice.Eq.{bytes_eq-Decides}
 use Rattle.law_journal.specs.Fine.{OfTable}
 use Rattle.law_journal.proofs.Created.{Created, created, Indexed, indexed}
 use Rattle.law_journal.proofs.DefLists.{redef}
 use Rattle.law_journal.proofs.Statements.{has_indexed_table}
-use Rattle.law_catalog_rows.specs.IsEncodableDef.{number_repeats}
+use Rattle.law_catalog_rows.specs.IsEncodableDef.{is_among, number_repeats}
 use Rattle.law_catalog_rows.proofs.Ordinals.{ordinals_differ}
-use Rattle.law_catalog_rows.proofs.RowsAfter.{indexed_is_users}
+use Rattle.law_catalog_rows.proofs.Declared.{live_declared}
+use Rattle.law_catalog_rows.proofs.Names.{other_way}
 use Rattle.law_catalog_rows.specs.Formed.{AreInFront, FormedColumn, FormedIndex, HistoryOf, Formed, AllFresh, AllFormed}
 
 -- ---- tests that failed
@@ -87,6 +91,11 @@ history_formed : (kind : TableKind) (id : ℕ) (written : Option (List ℕ)) →
 history_formed AppendOnly id written h = refl
 history_formed Updatable id written h = h
 
+-- of a new table no column was dropped
+none_right : (n : ℕ) (key : List (List ℕ)) (cs : List ColumnDef) → list_all (λ c. not (is_among [] c.0) || c.1.key_position == 0) (numbered n (map (keyed key) cs)) ≡ true
+none_right n key [] = refl
+none_right n key (c ∷ cs) = none_right (n + 1) key cs
+
 -- the new definition, of which each name of the key is a column
 pub record IsNew (defs : Defs) (c : CreateTable) (def : TableDef) : Type 0 where
   pub is : def ≡ table_def (next_id defs) c
@@ -118,8 +127,7 @@ made defs c def e =
         history = history_formed c.kind (next_id defs) c.history k.history;
         view = k.view;
         own_names = n.first;
-        not_gone = refl;
-        none_dropped = refl;
+        dropped = none_right 1 c.key c.columns;
         count = k.count;
         columns = all_weaker _ FormedColumn (λ x small. record { name = small.name; ty = small.ty }) d.columns k.columns;
         column_names = n.third;
@@ -163,19 +171,6 @@ new_formed ds def m a = record {
 
 -- ---- CREATE INDEX
 
-pub other_way : (a b : List ℕ) → bytes_eq a b ≡ false → bytes_eq b a ≡ false
-other_way a b e = here (bytes_eq b a) (bytes_eq b a) (bytes_eq-Decides b a) refl e
-  where
-    here : (c d : Bool) → Decides c (b ≡ a) → d ≡ c → bytes_eq a b ≡ false → c ≡ false
-    here true d k is f = absurd (differ (bytes_eq-Decides a b) f (sym (of_true k)))
-      where
-        of_true : Decides true (b ≡ a) → b ≡ a
-        of_true h = grind arith
-
-        differ : Decides (bytes_eq a b) (a ≡ b) → bytes_eq a b ≡ false → a ≡ b → ⊥
-        differ h g same = grind arith
-    here false d k is f = refl
-
 one_name_more : (ns : List (List ℕ)) (n m : List ℕ) → has_name ns m ≡ false → bytes_eq n m ≡ false → has_name (ns ++ n ∷ []) m ≡ false
 one_name_more [] n m e f = rw f refl
 one_name_more (k ∷ ns) n m e f = let p = or_false (bytes_eq k m) (has_name ns m) e in rw p.0 (one_name_more ns n m p.1 f)
@@ -195,45 +190,50 @@ ordinals_from_one : (columns : List ColumnDef) (names : List (List ℕ)) → lis
 ordinals_from_one columns [] e = tt
 ordinals_from_one columns (n ∷ ns) e = let p = and_true (is_declared columns n) (list_all (is_declared columns) ns) e in (ordinal_from_one (place_of columns n) p.0, ordinals_from_one columns ns p.1)
 
--- the new index has the statement's name, and an ordinal for each of its columns
-pub record IsIndexOf (c : CreateIndex) (x : TableDef × IndexDef) : Type 0 where
+standing_base : (def : TableDef) (p : Part) → not (is_standing def p) ≡ false → p ≡ Base
+standing_base def Base e = refl
+standing_base def History e = cc
+standing_base def View e = cc
+standing_base def System e = cc
+
+-- the new index is of a user's table; it has the statement's name, which is new, and an ordinal for each of its columns
+pub record NewIndex (c : CreateIndex) (x : TableDef × IndexDef) : Type 0 where
+  pub users : 2 < x.0.id
   pub name : x.1.name ≡ c.name
+  pub free : has_name (map (λ i. i.name) x.0.indexes) x.1.name ≡ false
   pub count : length x.1.ordinals ≡ length c.columns
-
-pub index_is : (defs : Defs) (c : CreateIndex) (x : TableDef × IndexDef) → index_check defs c ≡ Ok x → IsIndexOf c x
-unfolding index_check
-index_is defs c x e =
-    let l : Led (or_refused NoSuchTable (find_part defs c.table)) (index_check_in c) x = led _ _ x e in
-    let y : TableDef × IndexDef = (l.value.0, index_def l.value.0 c) in
-    let p : Passed (has_name (map (λ i. i.name) l.value.0.indexes) c.name || repeats c.columns) _ _ (not (list_all (is_declared l.value.0.columns) c.columns)) × (x ≡ y) = all_passed _ _ _ _ NameConflict LimitExceeded ReadOnlyTable NoSuchColumn y x l.then_ in
-    subst (IsIndexOf c) (sym p.1) (record { name = refl; count = length-map (map (place_of l.value.0.columns) c.columns) ordinal_at ∙ length-map c.columns (place_of l.value.0.columns) })
-
-pub record NewIndex (x : TableDef × IndexDef) : Type 0 where
-  pub name : has_name (map (λ i. i.name) x.0.indexes) x.1.name ≡ false
   pub ordinals : AllByRecursion (λ o. 1 ≤ o) x.1.ordinals
   pub differ : number_repeats x.1.ordinals ≡ false
 
-pub new_index : (defs : Defs) (c : CreateIndex) (x : TableDef × IndexDef) → index_check defs c ≡ Ok x → NewIndex x
+pub new_index : (defs : Defs) (c : CreateIndex) (x : TableDef × IndexDef) → index_check defs c ≡ Ok x → NewIndex c x
 unfolding index_check
 new_index defs c x e =
     let l : Led (or_refused NoSuchTable (find_part defs c.table)) (index_check_in c) x = led _ _ x e in
-    let y : TableDef × IndexDef = (l.value.0, index_def l.value.0 c) in
-    let p : Passed (has_name (map (λ i. i.name) l.value.0.indexes) c.name || repeats c.columns) _ _ (not (list_all (is_declared l.value.0.columns) c.columns)) × (x ≡ y) = all_passed _ _ _ _ NameConflict LimitExceeded ReadOnlyTable NoSuchColumn y x l.then_ in
-    subst NewIndex (sym p.1) (record {
-      name = (or_false (has_name (map (λ i. i.name) l.value.0.indexes) c.name) (repeats c.columns) p.0.first).0;
-      ordinals = ordinals_from_one l.value.0.columns c.columns (not_not _ p.0.fourth);
-      differ = ordinals_differ l.value.0.columns c.columns (not_not _ p.0.fourth) (or_false (has_name (map (λ i. i.name) l.value.0.indexes) c.name) (repeats c.columns) p.0.first).1;
+    let old : TableDef = l.value.0 in
+    let y : TableDef × IndexDef = (old, index_def old c) in
+    let p : Passed (has_name (map (λ i. i.name) old.indexes) c.name || repeats c.columns) _ (not (is_standing old l.value.1)) (not (list_all (is_declared (live_columns old)) c.columns)) × (x ≡ y) = all_passed _ _ _ _ NameConflict LimitExceeded ReadOnlyTable NoSuchColumn y x l.then_ in
+    let names = or_false (has_name (map (λ i. i.name) old.indexes) c.name) (repeats c.columns) p.0.first in
+    let declared : list_all (is_declared old.columns) c.columns ≡ true = live_declared old c.columns (not_not _ p.0.fourth) in
+    subst (NewIndex c) (sym p.1) (record {
+      users = found_is_users defs c.table l.value (was_found NoSuchTable (find_part defs c.table) l.value l.was) (standing_base old l.value.1 p.0.third);
+      name = refl;
+      free = names.0;
+      count = length-map (map (place_of old.columns) c.columns) ordinal_at ∙ length-map c.columns (place_of old.columns);
+      ordinals = ordinals_from_one old.columns c.columns declared;
+      differ = ordinals_differ old.columns c.columns declared names.1;
     })
 
-pub index_formed : (ds : Defs) (x : TableDef × IndexDef) → Indexed ds x → NewIndex x → Formed x.0 → Formed (with_index x.0 x.1)
-index_formed ds x i new f = record {
+pub indexed_is_users : (defs : Defs) (c : CreateIndex) (x : TableDef × IndexDef) → index_check defs c ≡ Ok x → 2 < x.0.id
+indexed_is_users defs c x e = (new_index defs c x e).users
+
+pub index_formed : (ds : Defs) (c : CreateIndex) (x : TableDef × IndexDef) → Indexed ds x → NewIndex c x → Formed x.0 → Formed (with_index x.0 x.1)
+index_formed ds c x i new f = record {
   id = f.id;
   name = f.name;
   history = f.history;
   view = f.view;
   own_names = f.own_names;
-  not_gone = f.not_gone;
-  none_dropped = f.none_dropped;
+  dropped = f.dropped;
   count = f.count;
   columns = f.columns;
   column_names = f.column_names;
@@ -242,7 +242,7 @@ index_formed ds x i new f = record {
   not_null = f.not_null;
   few_indexes = omega (arith, i.indexes, length-append x.0.indexes (x.1 ∷ []));
   indexes = all_append (FormedIndex (length x.0.columns)) x.0.indexes (x.1 ∷ []) f.indexes (record { name = i.name; count = i.count; ordinals = all_both (λ o. 1 ≤ o) (λ o. o ≤ length x.0.columns) x.1.ordinals new.ordinals i.ordinals; differ = new.differ }, tt);
-  index_names = subst (λ (ns : List (List ℕ)). repeats ns ≡ false) (sym (map-append (λ (j : IndexDef). j.name) x.0.indexes (x.1 ∷ []))) (still_differ (map (λ j. j.name) x.0.indexes) x.1.name f.index_names new.name);
+  index_names = subst (λ (ns : List (List ℕ)). repeats ns ≡ false) (sym (map-append (λ (j : IndexDef). j.name) x.0.indexes (x.1 ∷ []))) (still_differ (map (λ j. j.name) x.0.indexes) x.1.name f.index_names new.free);
 }
 
 pub in_its_place : (def : TableDef) (P : TableDef → Type 0) (ds : Defs) → P def → AllByRecursion P ds → AllByRecursion P (redef def ds)
@@ -252,19 +252,21 @@ in_its_place def P ds p h = all_map P P (λ (d : TableDef). if d.id == def.id th
     here true d k = p
     here false d k = k
 
-module _ (x def : TableDef) (same : def.id ≡ x.id) (names : table_names def ≡ table_names x) where
-  same_names : (n : ℕ) (T : Tables) → IdsFrom n (defs_of T) → OfTable x.id (λ t. t.def ≡ x) T → (n ≤ x.id) × (map table_names (redef def (defs_of T)) ≡ map table_names (defs_of T))
-  same_names n [] ids o = absurd o
-  same_names n (t ∷ ts) ids o = elim o [
-    | inl p ↦ (omega (arith, ids.0, p.0), rw (eq-eqb t.def.id def.id (p.0 ∙ sym same)) (ap (λ (ns : List (List ℕ)). ns ∷ map table_names (redef def (defs_of ts))) (names ∙ ap table_names (sym p.1)) ∙ ap (λ (all : List (List (List ℕ))). table_names t.def ∷ all) (above (n + 1) (defs_of ts) ids.1 (omega (arith, ids.0, p.0)))))
-    | inr q ↦ (
-        let r = same_names (n + 1) ts ids.1 q in
-        (omega (arith, r.0), rw (ne_eqb t.def.id def.id (λ e. absurd (omega (arith, e, same, ids.0, r.0)))) (ap (λ (all : List (List (List ℕ))). table_names t.def ∷ all) r.1)))
-  ]
-    where
-      above : (m : ℕ) (ds : Defs) → IdsFrom m ds → x.id < m → map table_names (redef def ds) ≡ map table_names ds
-      above m [] is lt = refl
-      above m (d ∷ ds) is lt = rw (ne_eqb d.id def.id (λ e. absurd (omega (arith, e, same, is.0, lt)))) (ap (λ (all : List (List (List ℕ))). table_names d ∷ all) (above (m + 1) ds is.1 (omega (arith, lt))))
+-- a definition that takes the place of the one with its id
+module _ (x def : TableDef) (same : def.id ≡ x.id) where
+  pub none_behind : (n : ℕ) (ds : Defs) → IdsFrom n ds → x.id < n → redef def ds ≡ ds
+  none_behind n [] ids lt = refl
+  none_behind n (d ∷ ds) ids lt = rw (ne_eqb d.id def.id (λ e. absurd (omega (arith, e, same, ids.0, lt)))) (ap (λ (all : Defs). d ∷ all) (none_behind (n + 1) ds ids.1 (omega (arith, lt))))
+
+  module _ (names : table_names def ≡ table_names x) where
+    pub same_names : (n : ℕ) (T : Tables) → IdsFrom n (defs_of T) → OfTable x.id (λ t. t.def ≡ x) T → (n ≤ x.id) × (map table_names (redef def (defs_of T)) ≡ map table_names (defs_of T))
+    same_names n [] ids o = absurd o
+    same_names n (t ∷ ts) ids o = elim o [
+      | inl p ↦ (omega (arith, ids.0, p.0), rw (eq-eqb t.def.id def.id (p.0 ∙ sym same)) (ap (λ (ns : List (List ℕ)). ns ∷ map table_names (redef def (defs_of ts))) (names ∙ ap table_names (sym p.1)) ∙ ap (λ (ds : Defs). table_names t.def ∷ map table_names ds) (none_behind (n + 1) (defs_of ts) ids.1 (omega (arith, ids.0, p.0)))))
+      | inr q ↦ (
+          let r = same_names (n + 1) ts ids.1 q in
+          (omega (arith, r.0), rw (ne_eqb t.def.id def.id (λ e. absurd (omega (arith, e, same, ids.0, r.0)))) (ap (λ (all : List (List (List ℕ))). table_names t.def ∷ all) r.1)))
+    ]
 
 pub found_in : (P : TableDef → Type 0) (x : TableDef) (T : Tables) → OfTable x.id (λ t. t.def ≡ x) T → AllByRecursion (λ (d : TableDef). 2 < d.id → P d) (defs_of T) → 2 < x.id → P x
 found_in P x [] o h lt = absurd o
@@ -278,12 +280,22 @@ in_front_redefined def [] lt ids h = absurd h
 in_front_redefined def (a ∷ []) lt ids h = absurd h
 in_front_redefined def (a ∷ b ∷ ds) lt ids h = rw (ne_eqb a.id def.id (λ e. absurd (omega (arith, e, ids.0, lt))), ne_eqb b.id def.id (λ e. absurd (omega (arith, e, ids.1.0, lt)))) h
 
-pub redefined_formed : (tx : ℕ) (T : Tables) (c : CreateIndex) (x : TableDef × IndexDef) → IdsFrom 1 (defs_of T) → index_check (defs_of T) c ≡ Ok x → AllFormed (defs_of T) → AllFormed (redef (with_index x.0 x.1) (defs_of T))
-redefined_formed tx T c x ids e a =
+-- the definition of a user's table that takes the place of the one with its id
+pub redefined_formed : (T : Tables) (x def : TableDef) → IdsFrom 1 (defs_of T) → OfTable x.id (λ t. t.def ≡ x) T → 2 < x.id → def.id ≡ x.id → (Formed x → Formed def) → AllFresh [] (map table_names (redef def (defs_of T)))
+    → AllFormed (defs_of T) → AllFormed (redef def (defs_of T))
+redefined_formed T x def ids there users same formed fresh a = record {
+  system = in_front_redefined def (defs_of T) (omega (arith, users, same)) ids a.system;
+  each = in_its_place def (λ (d : TableDef). 2 < d.id → Formed d) (defs_of T) (λ lt. formed (found_in Formed x T there a.each users)) a.each;
+  fresh = fresh;
+}
+
+pub with_same_names : (T : Tables) (x def : TableDef) → IdsFrom 1 (defs_of T) → OfTable x.id (λ t. t.def ≡ x) T → 2 < x.id → def.id ≡ x.id → (Formed x → Formed def) → table_names def ≡ table_names x
+    → AllFormed (defs_of T) → AllFormed (redef def (defs_of T))
+with_same_names T x def ids there users same formed names a =
+    redefined_formed T x def ids there users same formed (subst (AllFresh []) (sym (same_names x def same names 1 T ids there).1) a.fresh) a
+
+pub indexed_formed : (tx : ℕ) (T : Tables) (c : CreateIndex) (x : TableDef × IndexDef) → IdsFrom 1 (defs_of T) → index_check (defs_of T) c ≡ Ok x → AllFormed (defs_of T) → AllFormed (redef (with_index x.0 x.1) (defs_of T))
+indexed_formed tx T c x ids e a =
     let i : Indexed (defs_of T) x = indexed (defs_of T) c x e in
-    let there : OfTable x.0.id (λ t. t.def ≡ x.0) T = has_indexed_table (λ n. n) tx T x ids i in
-    record {
-      system = in_front_redefined (with_index x.0 x.1) (defs_of T) (indexed_is_users (defs_of T) c x e) ids a.system;
-      each = in_its_place (with_index x.0 x.1) (λ (d : TableDef). 2 < d.id → Formed d) (defs_of T) (λ lt. index_formed (defs_of T) x i (new_index (defs_of T) c x e) (found_in Formed x.0 T there a.each lt)) a.each;
-      fresh = subst (AllFresh []) (sym (same_names x.0 (with_index x.0 x.1) refl refl 1 T ids there).1) a.fresh;
-    }
+    let new : NewIndex c x = new_index (defs_of T) c x e in
+    with_same_names T x.0 (with_index x.0 x.1) ids (has_indexed_table (λ n. n) tx T x ids i) new.users refl (index_formed (defs_of T) c x i new) refl a

@@ -50,8 +50,8 @@ module _ (Such : Stmt → Type 0) (P : Tables → Type 0) (keeps : (tx seq : ℕ
     alone_both : (x : State) (stmt : Stmt) → Such stmt → AllBoth x → AllBoth (alone tx x stmt).0
     alone_both x (s.Create c) such h = (effect_both x.seq x.tables (s.Create c) such h.0, h.1)
     alone_both x (s.Index c) such h = (effect_both x.seq x.tables (s.Index c) such h.0, h.1)
-    alone_both x (s.Alter altered) such h = h
-    alone_both x (s.Drop name) such h = h
+    alone_both x (s.Alter altered) such h = (effect_both x.seq x.tables (s.Alter altered) such h.0, h.1)
+    alone_both x (s.Drop name) such h = (effect_both x.seq x.tables (s.Drop name) such h.0, h.1)
     alone_both x (s.Change stmt) such h = (effect_both x.seq x.tables (s.Change stmt) such h.0, h.1)
     alone_both x (s.Select q) such h = (effect_both x.seq x.tables (s.Select q) such h.0, h.1)
     alone_both x s.Begin such h = h

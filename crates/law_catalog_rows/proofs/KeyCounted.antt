@@ -1,20 +1,20 @@
 -- The key positions of columns are all those from 1 to the number of names in the key.
-use Rattle.std.proofs.Common.{◌≡◌, ◌≤◌, ◌<◌, ℕ, zero, suc, ◌+◌, refl, sym, ap, ◌∙◌, Bool, true, false, List, [], ◌∷◌, ◌++◌, length, Option, Some, None, get_or, arith, length-append}
+use Rattle.std.proofs.Common.{◌≡◌, ◌≤◌, ◌<◌, ℕ, zero, suc, ◌+◌, refl, sym, ap, ◌∙◌, Bool, true, false, List, [], ◌∷◌, ◌++◌, length, Option, Some, None, arith, length-append}
 use Rattle.std.proofs.lemmas.Bool.{eqb-true, eq-eqb, lt-ltb}
 use Rattle.std.proofs.lemmas.Bool.Decides.{nat_tests}
 use Rattle.std.proofs.lemmas.List.Quantifiers.{position-Some}
-use Rattle.std.specs.Prelude.{◌==◌, ◌||◌, not, nat_le, nat_lt, cond, is_some, position, if◌then◌else◌}
+use Rattle.std.specs.Prelude.{◌==◌, ◌||◌, not, nat_le, nat_lt, cond, position, if◌then◌else◌}
 use Rattle.std.specs.List.{AllByRecursion, list_all, position_or_len, range_with_len}
 use Rattle.std.specs.Str.{bytes_eq}
 use Rattle.sql_value.specs.declared.column.ColumnDef.{ColumnDef}
 use Rattle.spec_model.specs.Lists.{has_name, repeats}
-use Rattle.spec_model.specs.Columns.{place_of}
 use Rattle.spec_model.specs.Checks.{is_declared}
 use Rattle.spec_model.specs.Create.{names_of, ordinal_at, key_position_of}
 use Rattle.law_frame.proofs.SameKeys.{or_false, and_true}
 use Rattle.law_catalog_rows.specs.IsEncodableDef.{is_among, is_between, greatest, positions_of, are_key_positions}
 use Rattle.law_catalog_rows.specs.Formed.{HasKeyPositions}
-use Rattle.law_catalog_rows.proofs.Forms.{other_way}
+use Rattle.law_catalog_rows.proofs.Declared.{declared_is}
+use Rattle.law_catalog_rows.proofs.Names.{other_way}
 use Rattle.law_catalog_rows.proofs.Ordinals.{same_bytes, own_bytes}
 use Rattle.law_catalog_rows.proofs.KeyPositions.{positions_differ}
 
@@ -77,21 +77,6 @@ module _ (key : List (List ℕ)) where
       here true is h m = has_it (c.key_position == 0) c.key_position k (positions_of cs) refl (p.0 ∙ ap (key_position_of key) (same_bytes c.name n is) ∙ e)
       here false is h m = still (not (c.key_position == 0)) c.key_position (suc k) (positions_of cs) (m h)
 
--- a name that is declared is among the columns'
-pub declared_name : (n : List ℕ) (cs : List ColumnDef) (o : Option ℕ) → place_of cs n ≡ o → is_some o ≡ true → has_name (names_of cs) n ≡ true
-declared_name n [] (Some i) e h = cc
-declared_name n cs None e h = cc
-declared_name n (c ∷ cs) (Some i) e h = let x = position-Some (λ (d : ColumnDef). bytes_eq d.name n) (c ∷ cs) i c e in at_place (c ∷ cs) i c x.0 x.1
-  where
-    at_place : (ds : List ColumnDef) (j : ℕ) (d : ColumnDef) → j < length ds → bytes_eq (get_or ds j d).name n ≡ true → has_name (names_of ds) n ≡ true
-    at_place [] j d lt e = absurd (omega (arith, lt))
-    at_place (x ∷ xs) zero d lt e = rw e refl
-    at_place (x ∷ xs) (suc j) d lt e = rest (bytes_eq x.name n) (at_place xs j d (omega (arith, lt)) e)
-      where
-        rest : (b : Bool) → has_name (names_of xs) n ≡ true → (b || has_name (names_of xs) n) ≡ true
-        rest true h = refl
-        rest false h = h
-
 -- where no name stands twice each is found at its own place
 not_at : (m n : List ℕ) (rest xs : List (List ℕ)) → has_name (xs ++ n ∷ rest) m ≡ false → bytes_eq n m ≡ false
 not_at m n rest [] h = (or_false (bytes_eq n m) (has_name rest m) h).0
@@ -120,7 +105,7 @@ each_among key front (n ∷ rest) cs is e p d =
     let h = and_true (is_declared cs n) (list_all (is_declared cs) rest) d in
     let place : position (λ m. bytes_eq m n) key ≡ Some (length front) = ap (position (λ m. bytes_eq m n)) is ∙ own_place front n rest (ap repeats (sym is) ∙ e) in
     let at : key_position_of key n ≡ suc (length front) = ap ordinal_at place ∙ omega arith in
-    let here : is_among (positions_of cs) (suc (length front)) ≡ true = among key n (length front) cs p at (declared_name n cs (place_of cs n) refl h.0) in
+    let here : is_among (positions_of cs) (suc (length front)) ≡ true = among key n (length front) cs p at (sym (declared_is cs n) ∙ h.0) in
     let more : list_all (is_among (positions_of cs)) (range_with_len (suc (length (front ++ n ∷ []))) (length rest)) ≡ true = each_among key (front ++ n ∷ []) rest cs (is ∙ sym (append_one front n rest)) e p h.1 in
     let count : suc (length (front ++ n ∷ [])) ≡ suc (length front) + 1 = omega (arith, length-append front (n ∷ [])) in
     rw here (ap (λ (k : ℕ). list_all (is_among (positions_of cs)) (range_with_len k (length rest))) (sym count) ∙ more)

@@ -1,5 +1,5 @@
 -- What checks and grammar leave may be spelled.
-use Rattle.std.proofs.Common.{◌≡◌, ◌≤◌, ℕ, ◌+◌, refl, ap, Bool, true, false, List, [], ◌∷◌, length, arith}
+use Rattle.std.proofs.Common.{◌≡◌, ◌≤◌, ℕ, refl, ap, Bool, true, false, List, [], ◌∷◌, length, arith}
 use Rattle.std.proofs.lemmas.Bool.Decides.{nat_tests}
 use Rattle.std.specs.Prelude.{◌==◌, ◌||◌, not, nat_le, nat_lt, position}
 use Rattle.std.specs.List.{AllByRecursion, list_all, list_any}
@@ -9,11 +9,10 @@ use Rattle.sql_value.specs.declared.column.TableKind.{TableKind}
 use Rattle.sql_value.specs.declared.column.TableKind.TheVariants.{AppendOnly, Updatable}
 use Rattle.sql_types.specs.declared.table.TableDef.{TableDef}
 use Rattle.sql_types.specs.declared.table.IndexDef.{IndexDef}
-use Rattle.spec_model.specs.Lists.{numbered}
 use Rattle.spec_model.specs.Create.{is_ledger_name, key_position_of}
 use Rattle.law_frame.proofs.SameKeys.{or_false}
 use Rattle.law_catalog_rows.specs.Formed.{FormedColumn, FormedIndex, HistoryOf, Formed}
-use Rattle.law_catalog_rows.specs.IsEncodableDef.{is_among, is_proper_name, is_between, dropped_are_right, is_encodable_column, is_encodable_index, has_its_history, is_encodable_def}
+use Rattle.law_catalog_rows.specs.IsEncodableDef.{is_proper_name, is_between, is_encodable_column, is_encodable_index, has_its_history, is_encodable_def}
 use Rattle.law_catalog_rows.specs.Written.{IsWritten, HistoryWritten, Written}
 use Rattle.law_catalog_rows.proofs.KeyCounted.{low_place, key_positions}
 
@@ -62,14 +61,6 @@ some_name key (c ∷ cs) p e = here (c.key_position == 0) refl e (λ h. some_nam
         let some : 1 ≤ c.key_position = grind (arith, nat_tests) in
         omega (arith, p.0, l, some))
 
-none_kept : (n : ℕ) (cs : List ColumnDef) → list_all (λ c. not (is_among [] c.0) || c.1.key_position == 0) (numbered n cs) ≡ true
-none_kept n [] = refl
-none_kept n (c ∷ cs) = none_kept (n + 1) cs
-
--- nothing was dropped
-none_right : (def : TableDef) → def.dropped ≡ [] → dropped_are_right def ≡ true
-none_right def e = rw e (none_kept 1 def.columns)
-
 pub may_be : (def : TableDef) → 3 ≤ def.id → Formed def → Written def → is_encodable_def def ≡ true
 may_be def three f w =
     rw (
@@ -78,7 +69,7 @@ may_be def three f w =
       history_proper def.kind def.history f.history w.history,
       proper def.view w.view f.view,
       f.own_names,
-      none_right def f.none_dropped,
+      f.dropped,
       in_between 1 64 (length def.columns) w.some_columns f.count,
       columns_spelled def.columns f.columns w.columns f.not_ledgers,
       f.column_names,

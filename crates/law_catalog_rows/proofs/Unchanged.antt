@@ -11,7 +11,6 @@ use Rattle.std.specs.Ordering.{int_cmp, int_eq, is_gt}
 use Rattle.sql_value.specs.declared.column.ColumnDef.{ColumnDef}
 use Rattle.sql_types.specs.declared.table.IndexDef.{IndexDef}
 use Rattle.sql_types.specs.declared.table.TableDef.{TableDef}
-use Rattle.spec_model.specs.Catalog.{Defs}
 use Rattle.spec_model.specs.Lists.{numbered}
 use Rattle.spec_model.specs.Rows.{Row, number}
 use Rattle.spec_model.specs.SystemTables.{table_row, column_row, column_rows, index_row, index_rows}
@@ -42,7 +41,7 @@ module _ (k : ℕ) where
       ∙ ap (λ (c : ℤ). same_number k a b && is_gt (int_cmp (pos 0) c)) g.none
       ∙ and_false (same_number k a b)
 
-  none_past : (row : Row) → HasNoChange k row → (rows : List Row) → AllByRecursion (HasNoChange k) rows → list_any (λ a. is_past k a row) rows ≡ false
+  pub none_past : (row : Row) → HasNoChange k row → (rows : List Row) → AllByRecursion (HasNoChange k) rows → list_any (λ a. is_past k a row) rows ≡ false
   none_past row own [] h = refl
   none_past row own (r ∷ rs) h = rw (not_past r row h.0 own, none_past row own rs h.1) refl
 
@@ -53,7 +52,7 @@ module _ (k : ℕ) where
   pub all_latest : (rows : List Row) → AllByRecursion (HasNoChange k) rows → latest k rows ≡ rows
   all_latest rows h = each_latest rows h rows h
 
-  each_said : (rows : List Row) → AllByRecursion (HasNoChange k) rows → map (without_change k) rows ≡ rows
+  pub each_said : (rows : List Row) → AllByRecursion (HasNoChange k) rows → map (without_change k) rows ≡ rows
   each_said [] h = refl
   each_said (r ∷ rs) h = rw (h.0.said, each_said rs h.1) refl
 
@@ -66,7 +65,7 @@ module _ (k : ℕ) where
   none_later [] h = refl
   none_later (r ∷ rs) h = rw (h.0.none, none_later rs h.1) refl
 
-  is_its_first : (row : Row) → HasNoChange k row → is_first k row ≡ true
+  pub is_its_first : (row : Row) → HasNoChange k row → is_first k row ≡ true
   is_its_first row h = ap (λ (c : ℤ). int_eq c (pos 0)) h.none
 
   all_first : (rows : List Row) → AllByRecursion (HasNoChange k) rows → filter (is_first k) rows ≡ rows
@@ -74,11 +73,11 @@ module _ (k : ℕ) where
   all_first (r ∷ rs) h = rw (is_its_first r h.0, all_first rs h.1) refl
 
   -- none is before another
-  nothing_before : (row : Row) → HasNoChange k row → (rows : List Row) → AllByRecursion (HasNoChange k) rows → filter (is_past k row) rows ≡ []
+  pub nothing_before : (row : Row) → HasNoChange k row → (rows : List Row) → AllByRecursion (HasNoChange k) rows → filter (is_past k row) rows ≡ []
   nothing_before row own [] h = refl
   nothing_before row own (r ∷ rs) h = rw (not_past row r own h.0, nothing_before row own rs h.1) refl
 
-indexes_first : (rows : List Row) → AllByRecursion (HasNoChange 1) rows → list_all (λ row. not (is_of_index row) || is_first 1 row) rows ≡ true
+pub indexes_first : (rows : List Row) → AllByRecursion (HasNoChange 1) rows → list_all (λ row. not (is_of_index row) || is_first 1 row) rows ≡ true
 indexes_first [] h = refl
 indexes_first (r ∷ rs) h = rw (is_its_first 1 r h.0, or_true (not (is_of_index r)), indexes_first rs h.1) refl
 
@@ -127,7 +126,7 @@ no_minus n = here (int_eq (pos n) (negsuc 0)) (Decides-int_eq (pos n) (negsuc 0)
 column_unchanged : (id : ℕ) (c : ℕ × ColumnDef) → IsUnchanged (column_row id c)
 column_unchanged id c = record { change = record { none = refl; said = refl }; stays = no_minus c.1.key_position }
 
-part_unchanged : (id g : ℕ) (name : List ℕ) (part : ℕ × ℕ) → IsUnchanged (index_row id g name part)
+pub part_unchanged : (id g : ℕ) (name : List ℕ) (part : ℕ × ℕ) → IsUnchanged (index_row id g name part)
 part_unchanged id g name part = record { change = record { none = refl; said = refl }; stays = no_minus part.1 }
 
 each_unchanged : {A : Type 0} (row : A → Row) → ((x : A) → IsUnchanged (row x)) → (xs : List A) → AllByRecursion IsUnchanged (map row xs)
@@ -146,10 +145,6 @@ items_unchanged def = all_append IsUnchanged (column_rows def) (rows_of_indexes 
 -- what holds of all rows holds of them in any order
 pub in_any_order : (P : Row → Type 0) (rows wanted : List Row) → IsPermutation rows wanted → AllByRecursion P wanted → AllByRecursion P rows
 in_any_order P rows wanted h all = recursion_from_All P rows (All-permutation P wanted rows (IsPermutation-sym rows wanted h) (All-from_recursion P wanted all))
-
-pub tables_unchanged : (ds : Defs) → AllByRecursion (HasNoChange 0) (map table_row ds)
-tables_unchanged [] = tt
-tables_unchanged (d ∷ ds) = (table_unchanged d, tables_unchanged ds)
 
 -- ---- where nothing was dropped, rows say what they say of a new table
 

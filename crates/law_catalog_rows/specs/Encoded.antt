@@ -1,5 +1,5 @@
 -- Which definitions the rows of the two system tables spell.
-use Rattle.std.specs.Prelude.{ℕ, ℤ, pos, negsuc, ◌+◌, ◌≡◌, ◌≢◌, ◌⊎◌, Bool, true, false, if◌then◌else◌, List, [], ◌∷◌, ◌++◌, map, flat_map}
+use Rattle.std.specs.Prelude.{ℕ, ℤ, pos, negsuc, ◌+◌, ◌≡◌, ◌≢◌, ◌⊎◌, Bool, true, false, if◌then◌else◌, List, [], ◌∷◌, ◌++◌, map}
 use Rattle.std.specs.List.{AllByRecursion, filter}
 use Rattle.std.specs.List.Sorted.{IsPermutation}
 use Rattle.std.specs.Ordering.{int_eq}
@@ -12,7 +12,7 @@ use Rattle.sql_types.specs.declared.version.Version.{Version}
 use Rattle.spec_model.specs.Lists.{numbered}
 use Rattle.spec_model.specs.Rows.{Row, number, values_of, live}
 use Rattle.spec_model.specs.Catalog.{Defs, Tables, defs_of}
-use Rattle.spec_model.specs.SystemTables.{kind_code, history_value, bit, table_row, column_rows, index_rows}
+use Rattle.spec_model.specs.SystemTables.{kind_code, history_value, bit, column_rows, index_rows}
 use Rattle.law_catalog_rows.specs.IsEncodableDef.{is_among, is_encodable_def, has_new_names}
 use Rattle.law_catalog_rows.specs.Latest.{latest, latest_said}
 use Rattle.law_catalog_rows.specs.Changes.{changes_are_right, items_follow}
@@ -61,11 +61,6 @@ latest_column_row def c = column_row_at def.id c (position_in_row def c)
 unfoldable pub latest_item_rows : TableDef → List Row
 latest_item_rows def = map (latest_column_row def) (numbered 1 def.columns) ++ rows_of_indexes def.id 1 def.indexes
 
--- the rows of the two system tables are those of these definitions, and no more, in any order
-pub record AreRowsOf (first second : List Row) (defs : Defs) : Type 0 where
-  pub tables : IsPermutation first (map table_row defs)
-  pub items : IsPermutation second (flat_map item_rows defs)
-
 -- ---- table by table
 
 -- the row is about the table with this id; one whose first value is no number is about none
@@ -81,17 +76,6 @@ abbrev pub IsAmong : TableDef → Defs → Type 0
 IsAmong def [] = ⊥
 IsAmong def (d ∷ ds) = (d ≡ def) ⊎ IsAmong def ds
 
--- the rows about this table are those of its definition
-pub record AreRowsOfOne (first second : List Row) (def : TableDef) : Type 0 where
-  pub table : IsPermutation (about (pos def.id) first) (table_row def ∷ [])
-  pub items : IsPermutation (about (pos def.id) second) (item_rows def)
-
--- the rows about each table are those of its definition, and there are rows about no other table
-pub record AreRowsOfEach (first second : List Row) (defs : Defs) : Type 0 where
-  pub one : (def : TableDef) → IsAmong def defs → AreRowsOfOne first second def
-  pub others : (id : ℤ) → ((def : TableDef) → IsAmong def defs → pos def.id ≢ id)
-      → (about id first ≡ []) × (about id second ≡ [])
-
 -- ---- by the rules
 
 -- of the rows about this table those that count say its definition, whatever changes led there, and all changes
@@ -101,6 +85,12 @@ pub record EncodeDef (first second : List Row) (def : TableDef) : Type 0 where
   pub items : IsPermutation (latest_said 1 (about (pos def.id) second)) (latest_item_rows def)
   pub changes : changes_are_right (about (pos def.id) first) (about (pos def.id) second) ≡ true
   pub follow : items_follow (about (pos def.id) second) ≡ true
+
+-- the rows about each table spell its definition, and there are rows about no other table
+pub record EncodeEach (first second : List Row) (defs : Defs) : Type 0 where
+  pub one : (def : TableDef) → IsAmong def defs → EncodeDef first second def
+  pub others : (id : ℤ) → ((def : TableDef) → IsAmong def defs → pos def.id ≢ id)
+      → (about id first ≡ []) × (about id second ≡ [])
 
 -- the rows spell these definitions and no more: those about each table spell its definition, and there are rows
 -- about no other table; each definition keeps to the rules, and no name of a table is taken
@@ -113,19 +103,13 @@ pub record RowsEncode (first second : List Row) (defs : Defs) : Type 0 where
 
 -- ---- tables
 
--- the rows that stand in the two system tables are those of the definitions of all other tables
+-- the rows that stand in the two system tables spell the definitions of all other tables, and no more
 abbrev pub HaveTheirRows : Tables → Type 0
 HaveTheirRows (first ∷ second ∷ users) =
-    AreRowsOf (live_rows first.versions) (live_rows second.versions) (defs_of users)
+    EncodeEach (live_rows first.versions) (live_rows second.versions) (defs_of users)
 HaveTheirRows _ = ⊥
 
--- the same, table by table
-abbrev pub EachHasItsRows : Tables → Type 0
-EachHasItsRows (first ∷ second ∷ users) =
-    AreRowsOfEach (live_rows first.versions) (live_rows second.versions) (defs_of users)
-EachHasItsRows _ = ⊥
-
--- those rows spell the definitions of all other tables, by the rules
+-- and these definitions keep to the rules
 abbrev pub AreEncodedByRows : Tables → Type 0
 AreEncodedByRows (first ∷ second ∷ users) =
     RowsEncode (live_rows first.versions) (live_rows second.versions) (defs_of users)

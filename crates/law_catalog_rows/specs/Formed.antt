@@ -1,4 +1,4 @@
--- What the checks of CREATE TABLE and CREATE INDEX leave of the definitions of users' tables.
+-- What the checks of CREATE, ALTER and DROP leave of the definitions of users' tables.
 use Rattle.std.specs.Prelude.{ℕ, ◌≡◌, ◌≤◌, ◌<◌, false, true, List, [], ◌∷◌, ◌++◌, map, length}
 use Rattle.std.specs.List.{AllByRecursion, list_any, list_all}
 use Rattle.sql_value.specs.declared.column.ColumnDef.{ColumnDef}
@@ -9,7 +9,7 @@ use Rattle.sql_types.specs.declared.table.TableDef.{TableDef}
 use Rattle.sql_types.specs.declared.table.IndexDef.{IndexDef}
 use Rattle.spec_model.specs.Lists.{has_name, repeats}
 use Rattle.spec_model.specs.Checks.{is_declared}
-use Rattle.law_catalog_rows.specs.IsEncodableDef.{number_repeats}
+use Rattle.law_catalog_rows.specs.IsEncodableDef.{number_repeats, dropped_are_right}
 use Rattle.spec_model.specs.Catalog.{Defs}
 use Rattle.spec_model.specs.SystemTables.{tables_def, columns_def}
 use Rattle.spec_model.specs.Create.{names_of, table_names, is_ledger_name, has_null_key, key_position_of}
@@ -43,11 +43,10 @@ pub record Formed (def : TableDef) : Type 0 where
   pub view : length def.view ≤ 128
   -- no two of its names are one
   pub own_names : repeats (table_names def) ≡ false
-  -- no statement drops a table or a column
-  pub not_gone : def.gone ≡ false
-  pub none_dropped : def.dropped ≡ []
   pub count : length def.columns ≤ 64
   pub columns : AllByRecursion FormedColumn def.columns
+  -- no column was dropped twice, and none of the key
+  pub dropped : dropped_are_right def ≡ true
   pub column_names : repeats (names_of def.columns) ≡ false
   pub not_ledgers : list_any (λ c. is_ledger_name c.name) def.columns ≡ false
   pub keyed : HasKeyPositions def.columns

@@ -4,6 +4,8 @@ use Rattle.std.specs.Prelude.{ℕ, ◌≡◌, ◌≤◌, ◌<◌, ◌==◌, not,
 use Rattle.std.specs.List.{AllByRecursion, list_all, list_any}
 use Rattle.sql_value.specs.declared.column.TableKind.{TableKind}
 use Rattle.sql_value.specs.declared.column.TableKind.TheVariants.{AppendOnly, Updatable}
+use Rattle.sql_types.specs.declared.statement.Alter.{Alter}
+use Rattle.sql_types.specs.declared.statement.Alter.TheVariants.{Add, DropColumn}
 use Rattle.sql_types.specs.declared.statement.CreateIndex.{CreateIndex}
 use Rattle.sql_types.specs.declared.statement.CreateTable.{CreateTable}
 use Rattle.sql_types.specs.declared.statement.Stmt.{Stmt}
@@ -35,9 +37,15 @@ pub record IndexWritten (c : CreateIndex) : Type 0 where
   pub name : IsWritten c.name
   pub some_columns : 1 ≤ length c.columns
 
+-- what is dropped gets a name that is made of the one that it has
+abbrev pub AlterWritten : Alter → Type 0
+AlterWritten (Add table column) = IsWritten column.name
+AlterWritten (DropColumn table column) = Unit {0}
+
 abbrev pub StatementWritten : Stmt → Type 0
 StatementWritten (s.Create c) = TableWritten c
 StatementWritten (s.Index c) = IndexWritten c
+StatementWritten (s.Alter a) = AlterWritten a
 StatementWritten _ = Unit {0}
 
 -- each statement that it reads is such

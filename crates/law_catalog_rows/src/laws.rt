@@ -9,19 +9,21 @@ ghost use Rattle.spec_model.specs.Journals.{cut, serial, IsLegal};
 ghost use Rattle.spec_model.specs.Runs.{Sound};
 ghost use Rattle.spec_model.specs.Script.{Reading};
 ghost use Rattle.spec_model.specs.SystemTables.{first_tables};
-ghost use Rattle.law_catalog_rows.specs.Encoded.{HaveTheirRows, EachHasItsRows, AreEncodedByRows};
+ghost use Rattle.law_journal.specs.AppendOnly.{AllKeepRows};
+ghost use Rattle.law_catalog_rows.specs.Encoded.{HaveTheirRows, AreEncodedByRows};
 ghost use Rattle.law_catalog_rows.specs.Formed.{AllFormed};
 ghost use Rattle.law_catalog_rows.specs.Differs.{EncodingHolds};
 ghost use Rattle.law_catalog_rows.specs.Written.{StatementWritten, ReadsWritten, AllWritten};
 
 /// The system's first tables have no row, and define no other table. Each statement keeps that the rows that
-/// stand in the system tables are those of the definitions of all other tables, and that these are formed as
-/// the checks leave them. One that the grammar may have written also keeps that the definitions are as the
-/// grammar leaves them.
+/// stand in the system tables spell the definitions of all other tables, and no more, where these are formed as
+/// the checks leave them and no append-only table has lost a row; and it keeps that they are so formed. One
+/// that the grammar may have written also keeps that the definitions are as the grammar leaves them.
 pub fn statements_keep_definitions()
     ensures first { HaveTheirRows first_tables }
     ensures rows { (T : Tables) (tx seq : ℕ) (stmt : Stmt)
-        → Sound tx seq T → HaveTheirRows T → HaveTheirRows (effect T tx seq stmt).tables }
+        → Sound tx seq T → AllFormed (defs_of T) → AllKeepRows T → HaveTheirRows T
+        → HaveTheirRows (effect T tx seq stmt).tables }
     ensures formed { (T : Tables) (tx seq : ℕ) (stmt : Stmt)
         → Sound tx seq T → AllFormed (defs_of T) → AllFormed (defs_of (effect T tx seq stmt).tables) }
     ensures written { (T : Tables) (tx seq : ℕ) (stmt : Stmt)
@@ -29,14 +31,12 @@ pub fn statements_keep_definitions()
         → AllWritten (defs_of (effect T tx seq stmt).tables) }
 {}
 
-/// In the tables to which a legal journal leads, at each cut, the rows that stand in the system tables are
-/// those of the definitions of all other tables, also table by table, and these are formed as the checks
-/// leave them. This holds for any reading of texts.
+/// In the tables to which a legal journal leads, at each cut, the rows that stand in the system tables spell
+/// the definitions of all other tables, each by the rows about it, and there are no others; and these
+/// definitions are formed as the checks leave them. This holds for any reading of texts.
 pub fn legal_journals_have_their_rows()
     ensures all { (reads : Reading) (items : List JournalItem) (m : ℕ)
         → IsLegal reads items → HaveTheirRows (serial reads (cut items m)) }
-    ensures each { (reads : Reading) (items : List JournalItem) (m : ℕ)
-        → IsLegal reads items → EachHasItsRows (serial reads (cut items m)) }
     ensures formed { (reads : Reading) (items : List JournalItem) (m : ℕ)
         → IsLegal reads items → AllFormed (defs_of (serial reads (cut items m))) }
 {}

@@ -4,10 +4,12 @@ use Rattle.std.specs.List.{AllByRecursion}
 use Rattle.sql_value.specs.declared.column.ColumnDef.{ColumnDef}
 use Rattle.sql_value.specs.declared.column.TableKind.{TableKind}
 use Rattle.sql_value.specs.declared.column.TableKind.TheVariants.{AppendOnly, Updatable}
+use Rattle.sql_types.specs.declared.statement.Alter.{Alter}
+use Rattle.sql_types.specs.declared.statement.Alter.TheVariants.{Add, DropColumn}
 use Rattle.sql_types.specs.declared.statement.Stmt.{Stmt}
 use Rattle.sql_types.specs.declared.statement.Stmt.TheVariants as s
-use Rattle.law_syntax.specs.Parsed.{IsName, Each, OneOrMore, Maybe, IsColumn, IsHistory, IsParsed}
-use Rattle.law_catalog_rows.specs.Written.{IsWritten, IfWritten, StatementWritten}
+use Rattle.spec_syntax.specs.Parsed.{IsName, Each, OneOrMore, Maybe, IsColumn, IsHistory, IsAlter, IsParsed}
+use Rattle.law_catalog_rows.specs.Written.{IsWritten, IfWritten, AlterWritten, StatementWritten}
 
 name_written : (n : List ℕ) → IsName n → IsWritten n
 name_written n is = (omega (arith, is.0), is.1)
@@ -32,6 +34,10 @@ each_of : {A : Type 0} (P : A → Type 0) (xs : List A) → OneOrMore P xs → E
 each_of P [] h = absurd h
 each_of P (x ∷ xs) h = h
 
+alter_written : (a : Alter) → IsAlter a → AlterWritten a
+alter_written (Add table column) is = name_written column.name is.1.0
+alter_written (DropColumn table name) is = tt
+
 pub parsed_written : (stmt : Stmt) → IsParsed stmt → StatementWritten stmt
 parsed_written (s.Create c) p = record {
   name = name_written c.name p.0;
@@ -42,7 +48,7 @@ parsed_written (s.Create c) p = record {
   view = if_written c.view p.4;
 }
 parsed_written (s.Index c) p = record { name = name_written c.name p.0; some_columns = some IsName c.columns p.2 }
-parsed_written (s.Alter altered) p = tt
+parsed_written (s.Alter a) p = alter_written a p
 parsed_written (s.Drop name) p = tt
 parsed_written (s.Change x) p = tt
 parsed_written (s.Select q) p = tt

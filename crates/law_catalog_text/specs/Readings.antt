@@ -1,7 +1,7 @@
 -- Readings of texts by the grammar.
 use Rattle.std.specs.Prelude.{◌≡◌, ℕ, List, Some}
 use Rattle.sql_types.specs.declared.statement.Stmt.{Stmt}
-use Rattle.law_syntax.specs.Statements.{IsStatement}
+use Rattle.spec_grammar.specs.Statements.{IsStatement}
 use Rattle.spec_model.specs.Script.{Reading}
 
 -- each statement that it reads is one of the grammar; it may read fewer

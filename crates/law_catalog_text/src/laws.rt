@@ -4,7 +4,7 @@ ghost use Rattle.std.specs.Prelude.{ℕ, List};
 ghost use Rattle.sql_types.specs.declared.journal.JournalItem.{JournalItem};
 ghost use Rattle.spec_model.specs.Journals.{cut, serial, IsLegal};
 ghost use Rattle.spec_model.specs.Script.{Reading};
-ghost use Rattle.law_syntax.specs.Text.{reading_of, statement_of};
+ghost use Rattle.spec_syntax.specs.Text.{reading_of, statement_of};
 ghost use Rattle.law_catalog_rows.specs.Differs.{EncodingHolds};
 ghost use Rattle.law_catalog_rows.specs.Encoded.{AreEncodedByRows};
 ghost use Rattle.law_catalog_rows.specs.Written.{ReadsWritten};
@@ -15,8 +15,8 @@ use law_printing::printing_is_read_back;
 use law_syntax::{parsing_keeps_to_the_grammar, versions_keep_to_the_grammar};
 
 /// Each table and each index that a statement of the grammar makes has a name with bytes that may stand in
-/// names, a column, and where it is a table a key. The reading of journals of each version keeps to the
-/// grammar, the parser's among them.
+/// names, a column, and where it is a table a key. Each column that one adds has such a name too. The reading
+/// of journals of each version keeps to the grammar, the parser's among them.
 pub fn readings_of_the_grammar_give_written()
     ensures written { (reads : Reading) → KeepsToTheGrammar reads → ReadsWritten reads }
     ensures versions { (version : ℕ) → KeepsToTheGrammar (reading_of version) }

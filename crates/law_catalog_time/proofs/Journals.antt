@@ -1,4 +1,4 @@
--- In the tables to which a legal journal leads versions start after the rows about their columns.
+-- In the tables to which a legal journal leads versions start after the rows about their columns, and respect their columns.
 use Rattle.std.proofs.Common.{◌≡◌, ◌<◌, ℕ, suc, ◌+◌, inl, inr, refl, sym, ap, subst, ◌∙◌, Bool, true, false, List, [], ◌∷◌, ◌++◌, map, Option, Some, None, arith}
 use Rattle.std.proofs.lemmas.Bool.{eq-eqb, ne_eqb}
 use Rattle.std.specs.Prelude.{◌==◌, if◌then◌else◌, IfSome}
@@ -8,8 +8,8 @@ use Rattle.sql_types.specs.declared.journal.JournalItem.TheVariants.{Tx, Close}
 use Rattle.sql_types.specs.declared.version.Table.{Table}
 use Rattle.sql_types.specs.declared.version.Version.{Version}
 use Rattle.spec_model.specs.Rows.{EventId}
-use Rattle.spec_model.specs.Catalog.{Tables}
-use Rattle.spec_model.specs.SystemTables.{first_tables}
+use Rattle.spec_model.specs.Catalog.{Tables, versions_of}
+use Rattle.spec_model.specs.SystemTables.{columns_id, first_tables}
 use Rattle.spec_model.specs.Runs.{Sound}
 use Rattle.spec_model.specs.Script.{Reading, script}
 use Rattle.spec_model.specs.Journals.{tx_count, IsOther, after_item, serial_from, serial, IsNext, IsLegalFrom, IsLegal}
@@ -27,7 +27,10 @@ use Rattle.spec_model.specs.Effect.{effect}
 use Rattle.law_journal.proofs.Keeping.{statement_kept, statement_described}
 use Rattle.law_journal.proofs.Serials.{no_number}
 use Rattle.law_catalog_time.specs.AfterColumns.{VersionsFollowColumns}
+use Rattle.law_catalog_time.specs.AsOfStart.{AllRespectColumns, VersionsRespectColumns}
 use Rattle.law_catalog_time.proofs.Statements.{statement_follows}
+use Rattle.law_catalog_time.proofs.ToldChanges.{ToldIn, AllTold}
+use Rattle.law_catalog_time.proofs.ToldStatements.{statement_told}
 
 -- ---- places
 
@@ -80,12 +83,14 @@ module _ (place : ℕ → ℕ) where
   }
 
   -- what each statement of a transaction keeps
-  abbrev AllThree : ℕ → ℕ → Tables → Type 0
-  AllThree tx seq T = (Kept place tx seq T × Described T) × VersionsFollowColumns place T
+  abbrev AllFour : ℕ → ℕ → Tables → Type 0
+  AllFour tx seq T = (Kept place tx seq T × Described T) × (VersionsFollowColumns place T × AllTold place T)
 
-  effect_three : (tx seq : ℕ) (T : Tables) (stmt : Stmt) → AllThree tx seq T → AllThree tx (effect T tx seq stmt).seq (effect T tx seq stmt).tables
-  effect_three tx seq T stmt h =
-      ((statement_kept place tx seq T stmt h.0.0 h.0.1, statement_described place tx seq T stmt h.0.0.sound.ids h.0.1), statement_follows place tx seq T stmt h.0.0 h.0.1 h.1)
+  effect_four : (tx seq : ℕ) (T : Tables) (stmt : Stmt) → AllFour tx seq T → AllFour tx (effect T tx seq stmt).seq (effect T tx seq stmt).tables
+  effect_four tx seq T stmt h = (
+    (statement_kept place tx seq T stmt h.0.0 h.0.1, statement_described place tx seq T stmt h.0.0.sound.ids h.0.1),
+    (statement_follows place tx seq T stmt h.0.0 h.0.1 h.1.0, statement_told place tx seq T h.0.0 h.0.1 h.1.1 stmt),
+  )
 
   module _ (reads : Reading) where
     pub record Between (before : List JournalItem) (T : Tables) : Type 0 where
@@ -94,6 +99,7 @@ module _ (place : ℕ → ℕ) where
       pub each : AllByRecursion (SettledTable (tx_count before)) T
       pub described : Described T
       pub follow : VersionsFollowColumns place T
+      pub told : AllTold place T
 
     first_part : (P : JournalItem → Type 0) (xs ys : List JournalItem) → AllByRecursion P (xs ++ ys) → AllByRecursion P xs
     first_part P [] ys h = tt
@@ -110,7 +116,7 @@ module _ (place : ℕ → ℕ) where
         let texts : List (List ℕ) = map (λ l. l.0) lines in
         let is : place id ≡ m = at id (rw (eq-eqb id id refl) refl) refl next.1 in
         let k : Kept place id 0 T = record { sound = b.sound id next.1; own = no_number id T (b.sound id next.1); others = b.numbered; each = all_weaker (SettledTable m) (KeptTable place (id, 0)) (λ t s. begins m id t is s) T b.each } in
-        let after = (whole_script id (AllThree id) (effect_three id) reads opened T texts ((k, b.described), b.follow)).0 in
+        let after = (whole_script id (AllFour id) (effect_four id) reads opened T texts ((k, b.described), (b.follow, b.told))).0 in
         let count : tx_count (before ++ Tx id session time opened lines ∷ []) ≡ suc m = omega (arith, one_tx before (Tx id session time opened lines)) in
         record {
           sound = λ other h. others_sound id other 0 (last_one (IsOther other) before (Tx id session time opened lines) h) reads opened T texts (b.sound id next.1) (b.sound other (first_part (IsOther other) before (Tx id session time opened lines ∷ []) h));
@@ -118,7 +124,8 @@ module _ (place : ℕ → ℕ) where
           each = subst (λ (n : ℕ). AllByRecursion (SettledTable n) (after_item reads T (Tx id session time opened lines))) (sym count)
               (all_weaker (KeptTable place (id, (script reads opened T id texts).state.seq)) (SettledTable (suc m)) (λ t s. settles m id (script reads opened T id texts).state.seq t is s) (script reads opened T id texts).state.tables after.0.0.each);
           described = after.0.1;
-          follow = after.1;
+          follow = after.1.0;
+          told = after.1.1;
         }
     after_one before T (Close n) at next b =
         let count : tx_count (before ++ Close n ∷ []) ≡ tx_count before = omega (arith, one_tx before (Close n)) in
@@ -128,6 +135,7 @@ module _ (place : ℕ → ℕ) where
           each = subst (λ (m : ℕ). AllByRecursion (SettledTable m) T) (sym count) b.each;
           described = b.described;
           follow = b.follow;
+          told = b.told;
         }
 
 append_one : (xs : List JournalItem) (y : JournalItem) (ys : List JournalItem) → xs ++ y ∷ ys ≡ (xs ++ y ∷ []) ++ ys
@@ -163,6 +171,10 @@ module _ (reads : Reading) (all : List JournalItem) where
   unfolding first_tables
   first_follows = ((λ lt. tt), ((λ lt. tt), tt))
 
+  first_told : AllTold (place_in all) first_tables
+  unfolding first_tables
+  first_told = ((λ lt. absurd (omega (arith, lt))), ((λ lt. absurd (omega (arith, lt))), tt))
+
   first_between : Between (place_in all) reads [] first_tables
   first_between = record {
     sound = λ id h. first_sound id 0;
@@ -170,7 +182,16 @@ module _ (reads : Reading) (all : List JournalItem) where
     each = first_settled;
     described = first_described;
     follow = first_follows;
+    told = first_told;
   }
 
+  legal_between : IsLegal reads all → Between (place_in all) reads all (serial reads all)
+  legal_between legal = after_all [] first_tables all refl legal first_between
+
   pub legal_follows : IsLegal reads all → VersionsFollowColumns (place_in all) (serial reads all)
-  legal_follows legal = (after_all [] first_tables all refl legal first_between).follow
+  legal_follows legal = (legal_between legal).follow
+
+  pub legal_respects : IsLegal reads all → VersionsRespectColumns (place_in all) (serial reads all)
+  legal_respects legal =
+      let T : Tables = serial reads all in
+      all_weaker (ToldIn (place_in all) (versions_of T columns_id)) (AllRespectColumns (place_in all) (versions_of T columns_id)) (λ t h lt. (h lt).versions) T (legal_between legal).told

@@ -4,6 +4,7 @@ use Rattle.std.proofs.lemmas.Bool.{eqb-true}
 use Rattle.std.specs.Prelude.{◌==◌, if◌then◌else◌}
 use Rattle.std.specs.List.{AllByRecursion}
 use Rattle.sql_value.specs.declared.column.ColumnDef.{ColumnDef}
+use Rattle.sql_types.specs.declared.statement.Alter.{Alter}
 use Rattle.sql_types.specs.declared.statement.CreateTable.{CreateTable}
 use Rattle.sql_types.specs.declared.statement.RowStmt.{RowStmt}
 use Rattle.sql_types.specs.declared.statement.Select.{Select}
@@ -21,10 +22,11 @@ use Rattle.spec_model.specs.Changes.{Change, Changes, Starts, Ends, changed, row
 use Rattle.spec_model.specs.Catalog.{Defs, NamedPart, Tables, defs_of, versions_of, with_versions}
 use Rattle.spec_model.specs.Checks.{row_statement_check}
 use Rattle.spec_model.specs.Query.{query_check}
-use Rattle.spec_model.specs.SystemTables.{tables_id, columns_id, columns_columns, column_row, column_rows, index_row, index_rows}
+use Rattle.spec_model.specs.SystemTables.{tables_id, columns_id, columns_columns, column_row, column_rows, index_row, index_rows, changed_column_row}
 use Rattle.spec_model.specs.Create.{create_check, index_check}
 use Rattle.spec_model.specs.Effect.{Effect, effect, query_rows, table_start, column_starts, with_def, redefined}
-use Rattle.spec_model.specs.ChangeSets.{TableChange, in_table, changed_in, changed_from, Definition, as_before, new, in_place, defined, ChangeSet, row_change_set, row_stmt_change_set, select_change_set, query_change_set, create_table_change_set, create_index_change_set, change_set}
+use Rattle.spec_model.specs.Alter.{WithColumn, next_change, Altered, alteration, table_drop}
+use Rattle.spec_model.specs.ChangeSets.{TableChange, in_table, changed_in, changed_from, Definition, as_before, new, in_place, altered, defined, ChangeSet, row_change_set, row_stmt_change_set, select_change_set, query_change_set, create_table_change_set, create_index_change_set, altered_change_set, change_set}
 use Rattle.spec_model.specs.Agreement.{IdsFrom}
 use Rattle.law_frame.proofs.Alls.{all_weaker, all_both, all_append, all_map, all_inserted}
 use Rattle.law_frame.proofs.AtTable.{changed_at, new_table, redefined_table}
@@ -35,9 +37,10 @@ use Rattle.law_frame.proofs.SameKeys.{same_itself}
 use Rattle.law_journal.specs.Fine.{key_in, AllFine}
 use Rattle.law_journal.specs.Kept.{IsEarlier, IsPast, KeptTable, Kept}
 use Rattle.law_journal.specs.Described.{Described}
+use Rattle.law_journal.proofs.Altered.{by_alter, by_drop}
 use Rattle.law_journal.proofs.Created.{Created, created}
 use Rattle.law_journal.proofs.DefLists.{all_defs}
-use Rattle.law_journal.proofs.NumberKeys.{same_first, column_key, index_key}
+use Rattle.law_journal.proofs.NumberKeys.{same_first, column_key, index_key, changed_column_key}
 use Rattle.law_journal.proofs.Order.{new_version}
 use Rattle.law_journal.proofs.Statements.{change_set_fine}
 use Rattle.law_journal.proofs.Tables.{kept_changed}
@@ -58,7 +61,7 @@ found_all : (P : Version → Type 0) (b : Bool) (vs ws : List Version) → AllBy
 found_all P true vs ws h k = h
 found_all P false vs ws h k = k
 
-past_at : (place : ℕ → ℕ) (now : EventId) (i : ℕ) (T : Tables) → AllByRecursion (KeptTable place now) T → AllByRecursion (IsPast place now) (versions_of T i)
+pub past_at : (place : ℕ → ℕ) (now : EventId) (i : ℕ) (T : Tables) → AllByRecursion (KeptTable place now) T → AllByRecursion (IsPast place now) (versions_of T i)
 past_at place now i [] h = tt
 past_at place now i (t ∷ ts) h = found_all (IsPast place now) (t.def.id == i) t.versions (versions_of ts i) h.0.past (past_at place now i ts h.1)
 
@@ -143,15 +146,19 @@ module _ (place : ℕ → ℕ) where
       λ lt. subst (λ (n : ℕ). AllByRecursion (StartsAfterColumns place second n) t.versions) same (k (omega (arith, same, lt)))
   in_its_place second def false t e k = k
 
+  redefined_follow : (def : TableDef) (U : Tables) → VersionsFollowColumns place U → VersionsFollowColumns place (redefined def U)
+  redefined_follow def U h =
+      let S : List Version = versions_of U columns_id in
+      subst (λ (second : List Version). AllByRecursion (AllStartAfterColumns place second) (redefined def U)) (sym (redefined_table def columns_id U))
+      (all_map (AllStartAfterColumns place S) (AllStartAfterColumns place S) (λ t. if t.def.id == def.id then with_def def t else t) (λ t k. in_its_place S def (t.def.id == def.id) t refl k) U h)
+
   defined_follow : (d : Definition) (U : Tables) → VersionsFollowColumns place U → VersionsFollowColumns place (defined d U)
   defined_follow as_before U h = h
   defined_follow (new def) U h =
       subst (λ (second : List Version). AllByRecursion (AllStartAfterColumns place second) (U ++ record { def = def; versions = [] } ∷ [])) (sym (new_table def columns_id U))
       (all_append (AllStartAfterColumns place (versions_of U columns_id)) U (record { def = def; versions = [] } ∷ []) h ((λ lt. tt), tt))
-  defined_follow (in_place def) U h =
-      let S : List Version = versions_of U columns_id in
-      subst (λ (second : List Version). AllByRecursion (AllStartAfterColumns place second) (redefined def U)) (sym (redefined_table def columns_id U))
-      (all_map (AllStartAfterColumns place S) (AllStartAfterColumns place S) (λ t. if t.def.id == def.id then with_def def t else t) (λ t k. in_its_place S def (t.def.id == def.id) t refl k) U h)
+  defined_follow (in_place def) U h = redefined_follow def U h
+  defined_follow (altered def) U h = redefined_follow def U h
 
 -- ---- what statements start in the table of columns
 
@@ -163,11 +170,24 @@ one_key a b m n e =
     let first = same_first a b (number m ∷ number 0 ∷ []) (number n ∷ number 0 ∷ []) same in
     (first.0, (same_first m n (number 0 ∷ []) (number 0 ∷ []) first.1).0)
 
+-- and of such keys the changes are equal
+change_of : (a m n b k : ℕ) → number a ∷ number m ∷ number n ∷ [] ≡ number b ∷ number k ∷ number 0 ∷ [] → n ≡ 0
+change_of a m n b k e =
+    let same : same_key (number a ∷ number m ∷ number n ∷ []) (number b ∷ number k ∷ number 0 ∷ []) ≡ true =
+    ap (same_key (number a ∷ number m ∷ number n ∷ [])) (sym e) ∙ same_itself (number a ∷ number m ∷ number n ∷ []) in
+    let first = same_first a b (number m ∷ number n ∷ []) (number k ∷ number 0 ∷ []) same in
+    let second = same_first m k (number n ∷ []) (number 0 ∷ []) first.1 in
+    (same_first n 0 [] [] second.1).0
+
+next_is_above : (id : ℕ) (first second : List Version) → 1 ≤ next_change id first second
+unfolding next_change
+next_is_above id first second = omega arith
+
 -- these ids are below n
-abbrev AllBelow : ℕ → Defs → Type 0
+abbrev pub AllBelow : ℕ → Defs → Type 0
 AllBelow n defs = AllByRecursion (λ (d : TableDef). d.id < n) defs
 
-ids_below : (k n : ℕ) (defs : Defs) → IdsFrom k defs → k + length defs ≤ n → AllBelow n defs
+pub ids_below : (k n : ℕ) (defs : Defs) → IdsFrom k defs → k + length defs ≤ n → AllBelow n defs
 ids_below k n [] ids le = tt
 ids_below k n (d ∷ ds) ids le = (omega (arith, ids.0, le), ids_below (k + 1) n ds ids.1 (omega (arith, le)))
 
@@ -208,6 +228,34 @@ unfolding index_rows
 index_elsewhere T (Err e) = tt
 index_elsewhere T (Ok x) = part_elsewhere (defs_of T) x.0.id (length x.0.indexes + 1) 1 x.1.name x.1.ordinals (omega arith)
 
+-- ---- ALTER TABLE and DROP TABLE: changes are above 0
+
+changed_elsewhere : (defs : Defs) (n : ℕ) (x : WithColumn) → 1 ≤ n → IsNotOfColumns defs (columns_id, Starts (stored_row columns_columns (changed_column_row n x.0 x.1)))
+changed_elsewhere defs n x le = λ _. every defs
+  where
+    every : (ds : Defs) → AllByRecursion (λ (d : TableDef). 2 < d.id → IsNotOfColumn (Starts (stored_row columns_columns (changed_column_row n x.0 x.1))) d.id) ds
+    every [] = tt
+    every (d ∷ ds) = ((λ users k. (let e = change_of x.0.id x.1.0 n d.id k.item (sym (changed_column_key n x.0 x.1) ∙ k.is) in absurd (omega (arith, e, le)))), every ds)
+
+altered_elsewhere : (defs : Defs) (m : Checked Altered) → ((a : Altered) → m ≡ Ok a → AllByRecursion (IsNotOfColumns defs) (in_table columns_id a.second)) → AllByRecursion (IsNotOfColumns defs) (altered_change_set m).changes
+altered_elsewhere defs (Ok a) h = all_append (IsNotOfColumns defs) (in_table tables_id a.first) (in_table columns_id a.second) (of_tables a.first) (h a refl)
+  where
+    of_tables : (cs : List Change) → AllByRecursion (IsNotOfColumns defs) (in_table tables_id cs)
+    of_tables [] = tt
+    of_tables (c ∷ cs) = ((λ e. absurd (omega (arith, e))), of_tables cs)
+altered_elsewhere defs (Err e) h = tt
+
+alter_elsewhere : (defs : Defs) (first second : List Version) (y : Alter) → AllByRecursion (IsNotOfColumns defs) (altered_change_set (alteration defs first second y)).changes
+alter_elsewhere defs first second y =
+    altered_elsewhere defs (alteration defs first second y)
+    (λ a e. by_alter defs first second (λ b. AllByRecursion (IsNotOfColumns defs) (in_table columns_id b.second)) y a e
+    (λ x passed. (changed_elsewhere defs (next_change x.0.id first second) x (next_is_above x.0.id first second), tt)))
+
+drop_elsewhere : (defs : Defs) (first second : List Version) (name : List ℕ) → AllByRecursion (IsNotOfColumns defs) (altered_change_set (table_drop defs first second name)).changes
+drop_elsewhere defs first second name =
+    altered_elsewhere defs (table_drop defs first second name)
+    (λ a e. by_drop defs first second (λ b. AllByRecursion (IsNotOfColumns defs) (in_table columns_id b.second)) name a e (λ def passed. tt))
+
 -- ---- rows of users' tables
 
 users_elsewhere : (defs : Defs) (id : ℕ) (cs : List Change) → 2 < id → AllByRecursion (IsNotOfColumns defs) (in_table id cs)
@@ -236,8 +284,8 @@ change_set_elsewhere : (T : Tables) (stmt : Stmt) → IdsFrom 1 (defs_of T) → 
 unfolding change_set
 change_set_elsewhere T (s.Create c) ids = table_elsewhere T c (create_check (defs_of T) c) ids refl
 change_set_elsewhere T (s.Index c) ids = index_elsewhere T (index_check (defs_of T) c)
-change_set_elsewhere T (s.Alter altered) ids = tt
-change_set_elsewhere T (s.Drop name) ids = tt
+change_set_elsewhere T (s.Alter y) ids = alter_elsewhere (defs_of T) (versions_of T tables_id) (versions_of T columns_id) y
+change_set_elsewhere T (s.Drop name) ids = drop_elsewhere (defs_of T) (versions_of T tables_id) (versions_of T columns_id) name
 change_set_elsewhere T (s.Change stmt) ids = change_elsewhere T stmt (row_statement_check (defs_of T) stmt) refl
 change_set_elsewhere T (s.Select q) ids = query_elsewhere T q (query_check (defs_of T) q)
 change_set_elsewhere T s.Begin ids = tt

@@ -1,1 +1,2 @@
 pub mod AfterColumns
+pub mod AsOfStart

@@ -3,4 +3,4 @@
 
 mod laws;
 
-pub use laws::legal_versions_start_after_their_columns;
+pub use laws::{legal_versions_respect_their_columns, legal_versions_start_after_their_columns};

@@ -5,6 +5,7 @@ use Rattle.base_io.specs.Store.{Names, Bytes}
 use Rattle.sql_types.specs.declared.digest.Digest.{Digest}
 use Rattle.sql_types.specs.declared.journal.Journal.{Journal}
 use Rattle.sql_types.specs.declared.journal.JournalItem.{JournalItem}
+use Rattle.sql_types.specs.declared.journal.TheConstants.{JOURNAL_VERSION}
 use Rattle.spec_history.specs.Facts.{Fact}
 use Rattle.spec_history.specs.Inputs.{InputSession}
 use Rattle.spec_history.specs.Lists.{Each}
@@ -20,7 +21,7 @@ use Rattle.law_kept_images.specs.LastImage.{last_image, last_image_bytes}
 use Rattle.server_result.specs.declared.ran.RunOutcome.{RunOutcome as Output}
 use Rattle.law_headline.specs.Headline.{Headline, IsSaved}
 use Rattle.cli_commands.specs.declared.files.File.{File}
-use Rattle.cli_commands.specs.Replay.{SavesReplay, replayed_files}
+use Rattle.cli_commands.specs.Replay.{SavesReplay, replayed_files, replayed_image}
 use Rattle.cli_commands.specs.Run.{cut_file, digests_file, image_file, image_name, journal_file, journal_name, saved_files}
 use Rattle.cli_commands.specs.Names.{digests_limit, image_limit}
 use Rattle.cli_commands.specs.declared.status.Status.TheVariants.{Done}
@@ -55,9 +56,9 @@ module _ (h : List ℕ → List ℕ) (input : List InputSession) (setup : Option
   within None told_fits fits = fits
   within (Some bytes) told_fits fits = told_fits
 
-  pub exhibits : o.image ≡ last_image_bytes h o.journal → Each Stands (saved_files save o file) → IsRead file (Ok (map held o.digests)) → IsJournal o.journal
+  pub exhibits : o.journal.version ≡ JOURNAL_VERSION → o.image ≡ last_image_bytes h o.journal → Each Stands (saved_files save o file) → IsRead file (Ok (map held o.digests)) → IsJournal o.journal
       → OnSome told (length file ≤ digests_limit) → AreExhibits h names save told o file
-  exhibits image stand read spelling told_fits =
+  exhibits version image stand read spelling told_fits =
       let first : Each Stands (map (cut_file save) o.images) = each_front Stands (map (cut_file save) o.images) last_files stand in
       let last : Each Stands last_files = each_back Stands (map (cut_file save) o.images) last_files stand in
       record {
@@ -76,6 +77,7 @@ module _ (h : List ℕ → List ℕ) (input : List InputSession) (setup : Option
               accepted = ap (verdict_of h (map held digests)) saved.of_its_part.bytes ∙ (saved.bound digests closed).yes;
             };
         journal = record { there = last.1.1.0; spelling = spelling };
+        version = version;
         image = image;
       }
 
@@ -89,5 +91,6 @@ same_image equal h save again input o file names after taken_old taken_new x s =
     let J = s.read.J in
     let found = found_in names (journal_name save) (journal_bytes o.journal) image_limit s.read.bytes x.journal.there s.read.is_in_vault in
     let same = equal J o.journal s.read.spelled.0 x.journal.spelling (sym s.read.spelled.1 ∙ found) in
-    let put = image_is_present again (last_image_bytes h J) (journal_bytes J) (replayed_files h again J) (Some names) (Some after) refl s.put in
-    put ∙ ap (λ (K : Journal). Bytes (last_image_bytes h K)) same ∙ ap (λ (b : List ℕ). Bytes b) (sym x.image)
+    let put = image_is_present again (replayed_image h J) (journal_bytes J) (replayed_files h again J) (Some names) (Some after) refl s.put in
+    let in_version = ap (λ (n : ℕ). replayed_image h (record { version = n; database = o.journal.database; items = o.journal.items })) x.version in
+    put ∙ ap (λ (K : Journal). Bytes (replayed_image h K)) same ∙ ap (λ (b : List ℕ). Bytes b) (in_version ∙ sym x.image)

@@ -4,6 +4,7 @@ use Rattle.base_io.specs.Store.{Names, Bytes}
 use Rattle.sql_types.specs.declared.digest.Digest.{Digest}
 use Rattle.sql_types.specs.declared.digest.HeldDigest.{HeldDigest}
 use Rattle.sql_types.specs.declared.journal.Journal.{Journal}
+use Rattle.sql_types.specs.declared.journal.TheConstants.{JOURNAL_VERSION}
 use Rattle.spec_history.specs.Lists.{Each, In}
 use Rattle.spec_protocol.specs.Seats.{KeptImage}
 use Rattle.spec_verify.specs.declared.place.Verdict.TheVariants.{Yes}
@@ -45,7 +46,7 @@ pub record HoldsJournal (names : Names) (name : List ℕ) (J : Journal) : Type 0
 -- What the run of an input saved, where this is its file of digests, stands in the vault: the image of the whole
 -- journal is accepted with all digests that were issued, which are in that file; and each that was kept with any
 -- digests of its blocks. They are within the limits of what is read, to which the file of digests keeps where it
--- is told of what input it is. And so does the journal.
+-- is told of what input it is. And so does the journal, which is of a server's version.
 pub record AreExhibits (h : List ℕ → List ℕ) (names : Names) (save : List ℕ) (input : Option (List ℕ))
     (o : Output) (file : List ℕ) : Type 0 where
   pub fits : OnSome input (length file ≤ digests_limit)
@@ -56,4 +57,5 @@ pub record AreExhibits (h : List ℕ → List ℕ) (names : Names) (save : List 
       → Each (IsOfCut o.journal.items k.0 o.digests) digests
       → IsExhibit h names (cut_name save k.0) name k.1 (map held digests)
   pub journal : HoldsJournal names (journal_name save) o.journal
+  pub version : o.journal.version ≡ JOURNAL_VERSION
   pub image : o.image ≡ last_image_bytes h o.journal

@@ -3,7 +3,7 @@
 ghost use Rattle.std.specs.Prelude.{ℕ, ◌≡◌, ◌≤◌, List, Option, Some, length};
 ghost use Rattle.base_io.specs.Store.{Bytes, Names};
 ghost use Rattle.sql_types.specs.declared.digest.HeldDigest.{HeldDigest};
-ghost use Rattle.spec_syntax.specs.Text.{statement_of};
+ghost use Rattle.spec_syntax.specs.Text.{reading_of};
 ghost use Rattle.spec_verify.specs.declared.place.Verdict.TheVariants.{Yes};
 ghost use Rattle.spec_verify.specs.Bytes.{verdict_of};
 ghost use Rattle.law_kept_images.specs.Held.{AllHeld};
@@ -48,7 +48,7 @@ pub fn what_was_saved_is_accepted<K: Sink, V: Vault, C: Clock>()
     ensures replay { (h : List ℕ → List ℕ) (journal save : List ℕ) (old new : Names)
         → (puts : PutsAccepted h journal save (Some old) (Some new)) → length puts.image ≤ image_limit
         → (name : List ℕ) (digests : List HeldDigest) → HoldsDigests new name digests
-        → AllHeld h statement_of puts.read.J.database puts.read.J.items digests
+        → AllHeld h (reading_of puts.read.J.version) puts.read.J.database puts.read.J.items digests
         → IsExhibit h new (image_name save) name puts.image digests }
     // `replay` of the journal that a run saved
     ensures same_image { (h : List ℕ → List ℕ) (save again : List ℕ) (input : Option (List ℕ)) (o : Output)

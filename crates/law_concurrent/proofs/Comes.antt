@@ -205,6 +205,7 @@ module _ (joined_agree : JoinedAgree) (meanings_agree : MeaningsAgree) (meanings
     came_to = record {
       agree = λ q m. meanings_agree h statement_of v.meaning q meaning m database input (Some 0) X J G agree;
       in_order = in_order_by;
+      version = refl;
       legal = legal;
       of_database = refl;
       closings = subst (λ (n : ℕ). Each (FitsBlock n) J) x.of_size together.closings;

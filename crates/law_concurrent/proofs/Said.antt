@@ -69,6 +69,7 @@ module _ (law : ForMoments) (h : List ℕ → List ℕ) (database : Text) (size 
   came_so = let c = law h database size moments input r joined in record {
     agree = c.agree;
     in_order = c.in_order;
+    version = c.version;
     legal = c.legal;
     of_database = c.of_database;
     closings = c.closings;

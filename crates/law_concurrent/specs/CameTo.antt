@@ -2,6 +2,7 @@
 use Rattle.std.specs.Prelude.{ℕ, ◌≡◌, List, map, flat_map, Some}
 use Rattle.sql_types.specs.declared.digest.Digest.{Digest}
 use Rattle.sql_types.specs.declared.journal.Journal.{Journal}
+use Rattle.sql_types.specs.declared.journal.TheConstants.{JOURNAL_VERSION}
 use Rattle.spec_model.specs.LegalJournals.{IsLegalJournal}
 use Rattle.spec_history.specs.Agree.{Agree}
 use Rattle.spec_history.specs.Facts.{facts_of}
@@ -40,7 +41,8 @@ pub record CameTo (h : List ℕ → List ℕ) (database : Text) (size : ℕ) (Is
   -- all that the transcripts show stands in one order, and images are accepted with the digests before them
   -- in it, of whatever session
   pub in_order : (q : Meaning) → IsMeaning h statement_of q → RanInOneOrder h q database r.X r.kept r.J.items
-  -- the journal is a legal one, of the database, and no block is greater than it may be
+  -- the journal is a legal one of a server's version, of the database, and no block is greater than it may be
+  pub version : r.J.version ≡ JOURNAL_VERSION
   pub legal : IsLegalJournal statement_of r.J
   pub of_database : r.J.database ≡ database
   pub closings : Each (FitsBlock size) r.J.items

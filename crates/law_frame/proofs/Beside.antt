@@ -17,6 +17,7 @@ use Rattle.spec_model.specs.Refusals.{Checked}
 use Rattle.spec_model.specs.Lists.{all_some}
 use Rattle.spec_model.specs.Keys.{Key}
 use Rattle.spec_model.specs.Where.{key_fixed}
+use Rattle.spec_model.specs.Changes.{written_names}
 use Rattle.spec_model.specs.Catalog.{NamedPart, Tables, defs_of, versions_of}
 use Rattle.spec_model.specs.Checks.{row_statement_check}
 use Rattle.spec_model.specs.Query.{query_check}
@@ -110,7 +111,7 @@ module _ (reads : Reading) (T : Tables) (tx : ℕ) (texts : List (List ℕ)) (so
 
     by_row : (def : TableDef) (stmt : RowStmt) → AllOf (request.row_requests def stmt)
     unfolding request.row_requests
-    by_row def (Insert table names rows) = by_keys (all_some (map (request.key_inserted def.columns names) rows))
+    by_row def (Insert table names rows) = by_keys (all_some (map (request.key_inserted def.columns (written_names def names)) rows))
     by_row def (Update table sets cond) = by_key IX X tt (key_fixed def.columns cond)
     by_row def (Delete table cond) = by_key IX X tt (key_fixed def.columns cond)
 
@@ -134,7 +135,7 @@ module _ (reads : Reading) (T : Tables) (tx : ℕ) (texts : List (List ℕ)) (so
     unfolding request.cell_requests
     in_cell (s.Create c) e = tt
     in_cell (s.Index c) e = tt
-    in_cell (s.Alter altered) e = tt
+    in_cell (s.Alter b) e = tt
     in_cell (s.Drop name) e = tt
     in_cell (s.Change stmt) e = in_row_cell stmt (row_statement_check (defs_of T) stmt) e
     in_cell (s.Select q) e = in_query_cell q (query_check (defs_of T) q) e

@@ -21,8 +21,8 @@ same_alone : (tx : ℕ) (T : Tables) (b : Stmt) → creates b ≡ false → (in_
 unfolding saves rolls_back_to
 same_alone tx T (s.Create c) k = cc
 same_alone tx T (s.Index c) k = cc
-same_alone tx T (s.Alter altered) k = refl
-same_alone tx T (s.Drop name) k = refl
+same_alone tx T (s.Alter b) k = cc
+same_alone tx T (s.Drop name) k = cc
 same_alone tx T (s.Change stmt) k = refl
 same_alone tx T (s.Select q) k = refl
 same_alone tx T s.Begin k = refl
@@ -53,8 +53,8 @@ no_conflict (Some X) e = cc
 creator_requests : (b : Stmt) → creates b ≡ true → request.catalog_request false b ≡ Some X
 creator_requests (s.Create c) k = refl
 creator_requests (s.Index c) k = refl
-creator_requests (s.Alter altered) k = cc
-creator_requests (s.Drop name) k = cc
+creator_requests (s.Alter b) k = refl
+creator_requests (s.Drop name) k = refl
 creator_requests (s.Change stmt) k = cc
 creator_requests (s.Select q) k = cc
 creator_requests s.Begin k = cc

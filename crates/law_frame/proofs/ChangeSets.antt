@@ -1,5 +1,5 @@
 -- The effect of a statement is its plan, carried out.
-use Rattle.std.proofs.Common.{◌≡◌, ℕ, suc, ◌+◌, refl, sym, ap, ◌∙◌, Bool, true, false, List, [], ◌∷◌, ◌++◌, length, Ok, Err, arith}
+use Rattle.std.proofs.Common.{◌≡◌, ℕ, suc, ◌+◌, refl, sym, ap, ◌∙◌, Bool, true, false, List, [], ◌∷◌, ◌++◌, length, Ok, Err, arith, length-append}
 use Rattle.std.proofs.lemmas.List.{length-map}
 use Rattle.std.specs.Prelude.{◌==◌, if◌then◌else◌}
 use Rattle.sql_types.specs.declared.statement.Stmt.{Stmt}
@@ -20,8 +20,9 @@ use Rattle.spec_model.specs.Checks.{row_statement_check}
 use Rattle.spec_model.specs.Query.{query_check}
 use Rattle.spec_model.specs.SystemTables.{tables_id, columns_id, column_row, column_rows, index_row, index_rows}
 use Rattle.spec_model.specs.Create.{create_check, index_check, with_index}
-use Rattle.spec_model.specs.Effect.{Effect, effect, done, row_effect, shown, query_rows, query_effect, table_start, column_starts, table_effect, redefined, index_starts, index_effect}
-use Rattle.spec_model.specs.ChangeSets.{TableChange, in_table, changed_in, changed_from, row_change_set, row_stmt_change_set, select_change_set, query_change_set, create_table_change_set, create_index_change_set, change_set, carried_out}
+use Rattle.spec_model.specs.Alter.{Altered, alteration, table_drop}
+use Rattle.spec_model.specs.Effect.{Effect, effect, done, row_effect, shown, query_rows, query_effect, table_start, column_starts, table_effect, redefined, index_starts, index_effect, altered_effect}
+use Rattle.spec_model.specs.ChangeSets.{TableChange, in_table, changed_in, changed_from, row_change_set, row_stmt_change_set, select_change_set, query_change_set, create_table_change_set, create_index_change_set, altered_change_set, change_set, carried_out}
 
 -- ---- changes in one table
 
@@ -129,13 +130,19 @@ index_carried_out T tx seq (Ok x) = same_effect _ _ _ _ _
     (omega (arith, length-in_table columns_id (index_starts x.0 x.1), length-starts (index_rows x.0.id (length x.0.indexes + 1) x.1), length-map (numbered 1 x.1.ordinals) (index_row x.0.id (length x.0.indexes + 1) x.1.name), length-numbered 1 x.1.ordinals))
 index_carried_out T tx seq (Err e) = unchanged T seq _
 
+altered_carried_out : (T : Tables) (tx seq : ℕ) (m : Checked Altered) → altered_effect T tx seq m ≡ carried_out T tx seq (altered_change_set m)
+altered_carried_out T tx seq (Ok a) = same_effect _ _ _ _ _
+    (ap (redefined a.def) (system_rows T tx seq a.first a.second))
+    (omega (arith, length-append (in_table tables_id a.first) (in_table columns_id a.second), length-in_table tables_id a.first, length-in_table columns_id a.second))
+altered_carried_out T tx seq (Err e) = unchanged T seq _
+
 -- every statement does what its plan says
 pub carries_change_set_out : (T : Tables) (tx seq : ℕ) (stmt : Stmt) → effect T tx seq stmt ≡ carried_out T tx seq (change_set T stmt)
 unfolding effect change_set
 carries_change_set_out T tx seq (s.Create c) = table_carried_out T tx seq (create_check (defs_of T) c)
 carries_change_set_out T tx seq (s.Index c) = index_carried_out T tx seq (index_check (defs_of T) c)
-carries_change_set_out T tx seq (s.Alter altered) = unchanged T seq _
-carries_change_set_out T tx seq (s.Drop name) = unchanged T seq _
+carries_change_set_out T tx seq (s.Alter a) = altered_carried_out T tx seq (alteration (defs_of T) (versions_of T tables_id) (versions_of T columns_id) a)
+carries_change_set_out T tx seq (s.Drop name) = altered_carried_out T tx seq (table_drop (defs_of T) (versions_of T tables_id) (versions_of T columns_id) name)
 carries_change_set_out T tx seq (s.Change stmt) = change_carried_out T tx seq stmt (row_statement_check (defs_of T) stmt)
 carries_change_set_out T tx seq (s.Select q) = query_carried_out T tx seq q (query_check (defs_of T) q)
 carries_change_set_out T tx seq s.Begin = unchanged T seq _

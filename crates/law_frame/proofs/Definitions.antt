@@ -58,8 +58,8 @@ pub change_set_keeps : (T : Tables) (stmt : Stmt) → creates stmt ≡ false →
 unfolding change_set
 change_set_keeps T (s.Create c) e = cc
 change_set_keeps T (s.Index c) e = cc
-change_set_keeps T (s.Alter altered) e = refl
-change_set_keeps T (s.Drop name) e = refl
+change_set_keeps T (s.Alter a) e = cc
+change_set_keeps T (s.Drop name) e = cc
 change_set_keeps T (s.Change stmt) e = row_stmt_change_set_keeps T stmt (row_statement_check (defs_of T) stmt)
 change_set_keeps T (s.Select q) e = query_change_set_keeps T q (query_check (defs_of T) q)
 change_set_keeps T s.Begin e = refl
@@ -116,8 +116,8 @@ pub cell_requests_dont_create : (defs : Defs) (stmt : Stmt) (c : ℕ × List Loc
 unfolding request.cell_requests
 cell_requests_dont_create defs (s.Create c) w e = cc
 cell_requests_dont_create defs (s.Index c) w e = cc
-cell_requests_dont_create defs (s.Alter altered) w e = refl
-cell_requests_dont_create defs (s.Drop name) w e = refl
+cell_requests_dont_create defs (s.Alter a) w e = cc
+cell_requests_dont_create defs (s.Drop name) w e = cc
 cell_requests_dont_create defs (s.Change stmt) w e = refl
 cell_requests_dont_create defs (s.Select q) w e = refl
 cell_requests_dont_create defs s.Begin w e = refl
@@ -131,7 +131,7 @@ pub cell_requests_share : (defs : Defs) (explicit : Bool) (stmt : Stmt) (c : ℕ
 unfolding request.cell_requests
 cell_requests_share defs explicit (s.Create c) w e = cc
 cell_requests_share defs explicit (s.Index c) w e = cc
-cell_requests_share defs explicit (s.Alter altered) w e = cc
+cell_requests_share defs explicit (s.Alter a) w e = cc
 cell_requests_share defs explicit (s.Drop name) w e = cc
 cell_requests_share defs true (s.Change stmt) w e = refl
 cell_requests_share defs true (s.Select q) w e = refl
@@ -147,8 +147,8 @@ cell_requests_share defs explicit s.Image w e = cc
 pub alone_keeps : (T : Tables) (tx : ℕ) (stmt : Stmt) → creates stmt ≡ false → defs_of (alone tx (start T) stmt).0.tables ≡ defs_of T
 alone_keeps T tx (s.Create c) e = cc
 alone_keeps T tx (s.Index c) e = cc
-alone_keeps T tx (s.Alter altered) e = refl
-alone_keeps T tx (s.Drop name) e = refl
+alone_keeps T tx (s.Alter a) e = cc
+alone_keeps T tx (s.Drop name) e = cc
 alone_keeps T tx (s.Change stmt) e = defs_after T tx 0 (s.Change stmt) refl
 alone_keeps T tx (s.Select q) e = defs_after T tx 0 (s.Select q) refl
 alone_keeps T tx s.Begin e = refl
@@ -169,8 +169,8 @@ one_keeps_defs reads T tx text stmt e k = ap (λ (o : Option Stmt). defs_of (by_
 pub creates_alone : (stmt : Stmt) → creates stmt ≡ true → request.catalog_request false stmt ≡ Some X
 creates_alone (s.Create c) e = refl
 creates_alone (s.Index c) e = refl
-creates_alone (s.Alter altered) e = cc
-creates_alone (s.Drop name) e = cc
+creates_alone (s.Alter a) e = refl
+creates_alone (s.Drop name) e = refl
 creates_alone (s.Change stmt) e = cc
 creates_alone (s.Select q) e = cc
 creates_alone s.Begin e = cc
@@ -187,12 +187,12 @@ alone_conflicts IX = (refl, refl)
 alone_conflicts S = (refl, refl)
 alone_conflicts X = (refl, refl)
 
--- a CREATE in a transaction that BEGIN opened
+-- CREATE, ALTER and DROP in a transaction that BEGIN opened
 pub opened_refuses : (tx : ℕ) (x : State) (stmt : Stmt) → creates stmt ≡ true → in_transaction tx x stmt ≡ (x, Refused ForbiddenInTransaction)
 opened_refuses tx x (s.Create c) e = refl
 opened_refuses tx x (s.Index c) e = refl
-opened_refuses tx x (s.Alter altered) e = cc
-opened_refuses tx x (s.Drop name) e = cc
+opened_refuses tx x (s.Alter a) e = refl
+opened_refuses tx x (s.Drop name) e = refl
 opened_refuses tx x (s.Change stmt) e = cc
 opened_refuses tx x (s.Select q) e = cc
 opened_refuses tx x s.Begin e = cc

@@ -15,7 +15,7 @@ use Rattle.spec_model.specs.Lists.{checked_map, all_some, repeats}
 use Rattle.spec_model.specs.Rows.{Row, same_event, live, stored_row}
 use Rattle.spec_model.specs.Keys.{Key, key_cmp, same_key, version_key, of_key, live_by_key, live_by_key_at}
 use Rattle.spec_model.specs.Where.{key_fixed}
-use Rattle.spec_model.specs.Changes.{Starts, Ends, Changes, inserted_rows, versions_matched, row_after_set, replaced, insertion, replacement, deletion, row_changes}
+use Rattle.spec_model.specs.Changes.{Starts, Ends, Changes, written_names, inserted_rows, versions_matched, row_after_set, replaced, insertion, replacement, deletion, row_changes}
 use Rattle.spec_model.specs.Create.{names_of}
 use Rattle.spec_model.specs.Checks.{is_in_key, row_check}
 use Rattle.spec_model.specs.Locks as request
@@ -93,11 +93,11 @@ pub row_leaves : (def : TableDef) (part : Part) (stmt : RowStmt) (key : Key) (V 
     → list_any (lets_change key) (request.row_requests def stmt) ≡ false → row_changes def V stmt ≡ Ok c → AllByRecursion (Leaves def.columns key V) c.0
 unfolding row_changes request.row_requests
 row_leaves def part (Insert table names rows) key V c r distinct check h e =
-    let l : Led (inserted_rows def.columns V names rows) (λ kept. Ok (insertion def.columns kept)) c = led _ _ c e in
+    let l : Led (inserted_rows def.columns V (written_names def names) rows) (λ kept. Ok (insertion def.columns kept)) c = led _ _ c e in
     let is : insertion def.columns l.value ≡ c = cc in
     subst (λ (d : Changes). AllByRecursion (Leaves def.columns key V) d.0) is
     (all_map _ (Leaves def.columns key V) (λ row. Starts (stored_row def.columns row)) (λ row u. u) l.value
-    (insert_unlike def.columns key names V rows l.value (all_some (map (request.key_inserted def.columns names) rows)) refl h l.was))
+    (insert_unlike def.columns key (written_names def names) V rows l.value (all_some (map (request.key_inserted def.columns (written_names def names)) rows)) refl h l.was))
 row_leaves def part (Update table sets cond) key V c r distinct check h e =
     let l : Led (versions_matched def.columns cond V) (λ taken. and_then (checked_map (row_after_set def.columns sets) taken) (λ rows. Ok (replacement def.columns (zip taken rows)))) c = led _ _ c e in
     let k : Led (checked_map (row_after_set def.columns sets) l.value) (λ rows. Ok (replacement def.columns (zip l.value rows))) c = led _ _ c l.then_ in

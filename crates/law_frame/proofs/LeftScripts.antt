@@ -22,8 +22,8 @@ use Rattle.law_frame.proofs.StepByStep.{OnText, Throughout, throughout, script_k
 pub same_catalog_request : (stmt : Stmt) → creates stmt ≡ false → request.catalog_request true stmt ≡ request.catalog_request false stmt
 same_catalog_request (s.Create c) e = cc
 same_catalog_request (s.Index c) e = cc
-same_catalog_request (s.Alter altered) e = refl
-same_catalog_request (s.Drop name) e = refl
+same_catalog_request (s.Alter a) e = cc
+same_catalog_request (s.Drop name) e = cc
 same_catalog_request (s.Change stmt) e = refl
 same_catalog_request (s.Select q) e = refl
 same_catalog_request s.Begin e = refl

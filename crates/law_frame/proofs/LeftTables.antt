@@ -18,15 +18,16 @@ use Rattle.spec_model.specs.Lists.{all_some, repeats}
 use Rattle.spec_model.specs.Rows.{Row}
 use Rattle.spec_model.specs.Keys.{Key, of_key}
 use Rattle.spec_model.specs.Where.{key_fixed}
-use Rattle.spec_model.specs.Changes.{Change, Changes, changed, changed_all, inserted_rows, insertion, row_changes}
+use Rattle.spec_model.specs.Changes.{Change, Changes, changed, changed_all, written_names, inserted_rows, insertion, row_changes}
 use Rattle.spec_model.specs.Catalog.{NamedPart, Tables, defs_of, versions_of, changed_table}
 use Rattle.spec_model.specs.Checks.{row_check, row_statement_check}
 use Rattle.spec_model.specs.Query.{query_check}
 use Rattle.spec_model.specs.SystemTables.{tables_id, columns_id, column_rows}
 use Rattle.spec_model.specs.Create.{names_of, create_check, index_check, with_index}
+use Rattle.spec_model.specs.Alter.{Altered, alteration, table_drop}
 use Rattle.spec_model.specs.Effect.{Effect, effect, query_rows, table_start, column_starts, index_starts}
 use Rattle.spec_model.specs.Locks as request
-use Rattle.spec_model.specs.ChangeSets.{TableChange, in_table, changed_in, changed_from, ChangeSet, row_change_set, row_stmt_change_set, select_change_set, query_change_set, create_table_change_set, create_index_change_set, change_set, carried_out}
+use Rattle.spec_model.specs.ChangeSets.{TableChange, in_table, changed_in, changed_from, ChangeSet, row_change_set, row_stmt_change_set, select_change_set, query_change_set, create_table_change_set, create_index_change_set, altered_change_set, change_set, carried_out}
 use Rattle.spec_model.specs.Agreement.{columns_at, requests_of}
 use Rattle.spec_model.specs.Runs.{Sound}
 use Rattle.spec_model.specs.Reach.{lets_change, is_exclusive, cell_reaches, cell_reaches_table, catalog_reaches, reaches, reaches_table}
@@ -89,6 +90,10 @@ module _ (id : ℕ) where
   index_left tx seq T (Ok x) h = redefined_table (with_index x.0 x.1) id _ ∙ created tx seq [] (index_starts x.0 x.1) T h
   index_left tx seq T (Err e) h = refl
 
+  altered_left : (tx seq : ℕ) (T : Tables) (m : Checked Altered) → catalog_reaches id (Some X) ≡ false → after tx seq (altered_change_set m) T ≡ versions_of T id
+  altered_left tx seq T (Ok a) h = redefined_table a.def id _ ∙ created tx seq a.first a.second T h
+  altered_left tx seq T (Err e) h = refl
+
   rows_left : (tx seq : ℕ) (T : Tables) (m : Checked (List Row)) → after tx seq (select_change_set m) T ≡ versions_of T id
   rows_left tx seq T (Ok rows) = refl
   rows_left tx seq T (Err e) = refl
@@ -113,7 +118,7 @@ always_exclusive None = refl
 
 no_changes : (def : TableDef) (stmt : RowStmt) (vs : List Version) (c : Changes) → list_any (λ w. is_exclusive w.mode) (request.row_requests def stmt) ≡ false → row_changes def vs stmt ≡ Ok c → c.0 ≡ []
 unfolding row_changes request.row_requests
-no_changes def (Insert table names rows) vs c h e = no_rows def.columns names vs rows (all_some (map (request.key_inserted def.columns names) rows)) c refl h e
+no_changes def (Insert table names rows) vs c h e = no_rows def.columns (written_names def names) vs rows (all_some (map (request.key_inserted def.columns (written_names def names)) rows)) c refl h e
 no_changes def (Update table sets cond) vs c h e = absurd (not_both h (always_exclusive (key_fixed def.columns cond)))
 no_changes def (Delete table cond) vs c h e = absurd (not_both h (always_exclusive (key_fixed def.columns cond)))
 
@@ -143,8 +148,8 @@ module _ (tx seq : ℕ) (T : Tables) (id : ℕ) where
   unfolding change_set request.cell_requests
   by_change_set (s.Create c) h = table_left id tx seq T (create_check (defs_of T) c) (or_false (catalog_reaches id (Some X)) false h).0
   by_change_set (s.Index c) h = index_left id tx seq T (index_check (defs_of T) c) (or_false (catalog_reaches id (Some X)) false h).0
-  by_change_set (s.Alter altered) h = refl
-  by_change_set (s.Drop name) h = refl
+  by_change_set (s.Alter a) h = altered_left id tx seq T (alteration (defs_of T) (versions_of T tables_id) (versions_of T columns_id) a) (or_false (catalog_reaches id (Some X)) false h).0
+  by_change_set (s.Drop name) h = altered_left id tx seq T (table_drop (defs_of T) (versions_of T tables_id) (versions_of T columns_id) name) (or_false (catalog_reaches id (Some X)) false h).0
   by_change_set (s.Change stmt) h = ap (λ (U : Tables). versions_of U id) (change_definition stmt (row_statement_check (defs_of T) stmt)) ∙ change_left stmt (row_statement_check (defs_of T) stmt) h
   by_change_set (s.Select q) h = query_left id tx seq T q (query_check (defs_of T) q)
   by_change_set s.Begin h = refl
@@ -195,8 +200,8 @@ module _ (tx seq : ℕ) (T : Tables) (id : ℕ) where
     unfolding change_set request.cell_requests
     by_change_set_key (s.Create c) h = ap (of_key (columns_at (defs_of T) id) key) (table_left id tx seq T (create_check (defs_of T) c) (or_false (catalog_reaches id (Some X)) false h).0)
     by_change_set_key (s.Index c) h = ap (of_key (columns_at (defs_of T) id) key) (index_left id tx seq T (index_check (defs_of T) c) (or_false (catalog_reaches id (Some X)) false h).0)
-    by_change_set_key (s.Alter altered) h = refl
-    by_change_set_key (s.Drop name) h = refl
+    by_change_set_key (s.Alter a) h = ap (of_key (columns_at (defs_of T) id) key) (altered_left id tx seq T (alteration (defs_of T) (versions_of T tables_id) (versions_of T columns_id) a) (or_false (catalog_reaches id (Some X)) false h).0)
+    by_change_set_key (s.Drop name) h = ap (of_key (columns_at (defs_of T) id) key) (altered_left id tx seq T (table_drop (defs_of T) (versions_of T tables_id) (versions_of T columns_id) name) (or_false (catalog_reaches id (Some X)) false h).0)
     by_change_set_key (s.Change stmt) h = subst Left (sym (change_definition stmt (row_statement_check (defs_of T) stmt))) (change_key stmt (row_statement_check (defs_of T) stmt) refl h)
     by_change_set_key (s.Select q) h = ap (of_key (columns_at (defs_of T) id) key) (query_left id tx seq T q (query_check (defs_of T) q))
     by_change_set_key s.Begin h = refl

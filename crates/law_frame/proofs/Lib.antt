@@ -1,5 +1,6 @@
 pub mod AgreeAfter
 pub mod Alls
+pub mod Alterations
 pub mod AtTable
 pub mod BaseTables
 pub mod Beside
@@ -20,6 +21,7 @@ pub mod LegalRules
 pub mod LegalSound
 pub mod MappedRows
 pub mod NamedPart
+pub mod NextChange
 pub mod NoClash
 pub mod NoEvents
 pub mod OtherTransactions

@@ -17,6 +17,7 @@ use Rattle.spec_model.specs.Refusals.{Checked}
 use Rattle.spec_model.specs.Lists.{all_some}
 use Rattle.spec_model.specs.Keys.{Key, same_key}
 use Rattle.spec_model.specs.Where.{key_fixed}
+use Rattle.spec_model.specs.Changes.{written_names}
 use Rattle.spec_model.specs.Catalog.{Defs, NamedPart}
 use Rattle.spec_model.specs.Checks.{row_statement_check}
 use Rattle.spec_model.specs.Query.{query_check}
@@ -84,7 +85,7 @@ by_keys_conflict m None r = head_conflicts m X [] (x_conflicts m)
 
 row_conflicts : (m : Mode) (def : TableDef) (stmt : RowStmt) → Relies m → list_any (request.requests_conflict (request.whole m)) (request.row_requests def stmt) ≡ true
 unfolding request.row_requests
-row_conflicts m def (Insert table names rows) r = by_keys_conflict m (all_some (map (request.key_inserted def.columns names) rows)) r
+row_conflicts m def (Insert table names rows) r = by_keys_conflict m (all_some (map (request.key_inserted def.columns (written_names def names)) rows)) r
 row_conflicts m def (Update table sets cond) r = by_key_conflicts m (key_fixed def.columns cond) r
 row_conflicts m def (Delete table cond) r = by_key_conflicts m (key_fixed def.columns cond) r
 
@@ -117,7 +118,7 @@ module _ (i m : Mode) (key : Key) where
 
   row_free : (def : TableDef) (stmt : RowStmt) → Free (request.row_requests def stmt) → list_any (lets_change key) (request.row_requests def stmt) ≡ false
   unfolding request.row_requests
-  row_free def (Insert table names rows) h = by_keys_free (all_some (map (request.key_inserted def.columns names) rows)) h
+  row_free def (Insert table names rows) h = by_keys_free (all_some (map (request.key_inserted def.columns (written_names def names)) rows)) h
   row_free def (Update table sets cond) h = by_key_free (key_fixed def.columns cond) h
   row_free def (Delete table cond) h = by_key_free (key_fixed def.columns cond) h
 
@@ -157,7 +158,7 @@ or_no false c e f = f
 no_catalog : (id : ℕ) (b : Stmt) → catalog_reaches id (request.catalog_request true b) ≡ false
 no_catalog id (s.Create c) = refl
 no_catalog id (s.Index c) = refl
-no_catalog id (s.Alter altered) = refl
+no_catalog id (s.Alter b) = refl
 no_catalog id (s.Drop name) = refl
 no_catalog id (s.Change stmt) = refl
 no_catalog id (s.Select q) = refl
@@ -186,7 +187,7 @@ module _ (defs : Defs) (id : ℕ) where
   unfolding request.cell_requests
   system_cell (s.Create c) le = refl
   system_cell (s.Index c) le = refl
-  system_cell (s.Alter altered) le = refl
+  system_cell (s.Alter b) le = refl
   system_cell (s.Drop name) le = refl
   system_cell (s.Change stmt) le = system_row stmt (row_statement_check defs stmt) refl le
   system_cell (s.Select q) le = query_table q (query_check defs q)
@@ -226,7 +227,7 @@ module _ (defs : Defs) (id : ℕ) where
       unfolding request.cell_requests
       key_cell (s.Create c) h = refl
       key_cell (s.Index c) h = refl
-      key_cell (s.Alter altered) h = refl
+      key_cell (s.Alter b) h = refl
       key_cell (s.Drop name) h = refl
       key_cell (s.Change stmt) h = key_row stmt (row_statement_check defs stmt) h
       key_cell (s.Select q) h = key_query q (query_check defs q)
@@ -260,7 +261,7 @@ module _ (defs : Defs) (id : ℕ) where
       unfolding request.cell_requests
       whole_cell (s.Create c) h = refl
       whole_cell (s.Index c) h = refl
-      whole_cell (s.Alter altered) h = refl
+      whole_cell (s.Alter b) h = refl
       whole_cell (s.Drop name) h = refl
       whole_cell (s.Change stmt) h = whole_row stmt (row_statement_check defs stmt) h
       whole_cell (s.Select q) h = query_table q (query_check defs q)

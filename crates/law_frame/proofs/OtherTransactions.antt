@@ -10,7 +10,7 @@ use Rattle.spec_model.specs.Rows.{same_event, start_cmp, started, with_end, ende
 use Rattle.spec_model.specs.Changes.{Change, Starts, Ends, changed}
 use Rattle.spec_model.specs.Catalog.{Tables, with_versions}
 use Rattle.spec_model.specs.Effect.{Effect, effect, with_def}
-use Rattle.spec_model.specs.ChangeSets.{TableChange, changed_in, changed_from, Definition, as_before, new, in_place, defined, ChangeSet, change_set}
+use Rattle.spec_model.specs.ChangeSets.{TableChange, changed_in, changed_from, Definition, as_before, new, in_place, altered, defined, ChangeSet, change_set}
 use Rattle.spec_model.specs.Runs.{IsBefore, MadeBefore, SoundTable, Sound}
 use Rattle.spec_model.specs.Script.{Reading, script}
 use Rattle.law_frame.proofs.Alls.{all_weaker, all_both, all_append, all_map, all_inserted}
@@ -57,6 +57,7 @@ module _ (tx other n : ℕ) (differs : tx ≢ other) where
   defined_untouched as_before T h = h
   defined_untouched (new def) T h = all_append Untouched T (record { def = def; versions = [] } ∷ []) h (tt, tt)
   defined_untouched (in_place def) T h = all_map Untouched Untouched (λ t. if t.def.id == def.id then with_def def t else t) (λ t. def_untouched def (t.def.id == def.id) t) T h
+  defined_untouched (altered def) T h = all_map Untouched Untouched (λ t. if t.def.id == def.id then with_def def t else t) (λ t. def_untouched def (t.def.id == def.id) t) T h
 
   effect_untouched : (T : Tables) (seq : ℕ) (stmt : Stmt) → AllUntouched T → AllUntouched (effect T tx seq stmt).tables
   effect_untouched T seq stmt h =

@@ -18,6 +18,8 @@ use Rattle.sql_types.specs.declared.outcome.Outcome.{Outcome}
 use Rattle.sql_types.specs.declared.outcome.Outcome.TheVariants as out
 use Rattle.sql_types.specs.declared.reply.Reply.{Reply}
 use Rattle.sql_types.specs.declared.reply.Reply.TheVariants as r
+use Rattle.sql_types.specs.declared.statement.Alter.{Alter}
+use Rattle.sql_types.specs.declared.statement.Alter.TheVariants.{Add, DropColumn}
 use Rattle.sql_types.specs.declared.statement.Agg.{Agg}
 use Rattle.sql_types.specs.declared.statement.Agg.TheVariants.{Count, Sum}
 use Rattle.sql_types.specs.declared.statement.CreateIndex.{CreateIndex}
@@ -36,13 +38,16 @@ use Rattle.sql_types.specs.declared.table.TableDef.{TableDef}
 use Rattle.sql_types.specs.declared.version.Version.{Version}
 use Rattle.spec_model.specs.Refusals.{Checked, and_then, or_refused}
 use Rattle.spec_model.specs.Catalog.{Defs, NamedPart, Tables, defs_of, versions_of, find_part}
-use Rattle.spec_model.specs.Changes.{or_its_refusal, kept, kept_row, arranged, is_duplicate, one_more, inserted_rows, versions_matched, expr_set, as_value, value_set, row_after_set, Changes, row_changes}
+use Rattle.spec_model.specs.Changes.{or_its_refusal, written_names, kept, kept_row, arranged, is_duplicate, one_more, inserted_rows, versions_matched, expr_set, as_value, value_set, row_after_set, Changes, row_changes}
 use Rattle.spec_model.specs.Checks.{refused_if, listed_check, values_check, insert_check, sets_check, update_check, delete_check, row_check, row_statement_check}
 use Rattle.spec_model.specs.Columns.{place_of, value_of}
+use Rattle.spec_model.specs.SystemTables.{tables_id, columns_id}
 use Rattle.spec_model.specs.Create.{create_check, index_check_in, index_check}
-use Rattle.spec_model.specs.Effect.{effect, done, row_effect, shown, query_rows, query_effect, table_effect, index_effect}
+use Rattle.spec_model.specs.Alter.{add_check_in, live_named, drop_column_check, drop_column_check_in, alter_check, drop_check_in, drop_check, Altered, alteration, table_drop}
+use Rattle.spec_model.specs.Effect.{effect, done, row_effect, shown, query_rows, query_effect, table_effect, index_effect, altered_effect}
 use Rattle.spec_model.specs.Keys.{key_of}
 use Rattle.spec_model.specs.Lists.{checked_map, checked_filter, checked_fold}
+use Rattle.spec_model.specs.LiveColumns.{live_columns}
 use Rattle.spec_model.specs.Evaluation as me
 use Rattle.spec_model.specs.Numbers.{in_38_digits, combined, sum_of, difference_of, product_of, negative_of}
 use Rattle.spec_model.specs.Query.{select_check, query_check, value_in, added_up, total, agg_value, apply_select_list, selected}
@@ -321,7 +326,7 @@ set_row columns sets v = each (λ (p : ColumnDef × Value). value_set columns (b
 
 changes : (def : TableDef) (versions : List Version) (stmt : RowStmt) → IsPlainly (row_changes def versions stmt)
 unfolding row_changes
-changes def versions (Insert table names rows) = goes_on (inserted_rows def.columns versions names rows) _ (rows_inserted def.columns versions names rows) (λ kept. tt)
+changes def versions (Insert table names rows) = goes_on (inserted_rows def.columns versions (written_names def names) rows) _ (rows_inserted def.columns versions (written_names def names) rows) (λ kept. tt)
 changes def versions (Update table sets cond) =
     goes_on (versions_matched def.columns cond versions) _ (matched def.columns cond versions)
     (λ taken. goes_on (checked_map (row_after_set def.columns sets) taken) _ (each (row_after_set def.columns sets) (set_row def.columns sets) taken) (λ rows. tt))
@@ -335,15 +340,15 @@ values columns names rows = search check
 
 insertion : (def : TableDef) (part : Part) (names : Option (List (List ℕ))) (rows : List Row) → IsPlainly (insert_check def part names rows)
 unfolding insert_check
-insertion def part names rows = search (check, values def.columns names rows)
+insertion def part names rows = search (check, values (live_columns def) names rows)
 
-sets_checked : (declared columns : List ColumnDef) (sets : List (List ℕ × Expr)) (cond : Option Expr) → IsPlainly (sets_check declared columns sets cond)
+sets_checked : (live declared columns : List ColumnDef) (sets : List (List ℕ × Expr)) (cond : Option Expr) → IsPlainly (sets_check live declared columns sets cond)
 unfolding sets_check
-sets_checked declared columns sets cond = search check
+sets_checked live declared columns sets cond = search check
 
 update : (def : TableDef) (part : Part) (sets : List (List ℕ × Expr)) (cond : Option Expr) → IsPlainly (update_check def part sets cond)
 unfolding update_check
-update def part sets cond = search (check, sets_checked def.columns (columns_of def Base) sets cond)
+update def part sets cond = search (check, sets_checked (live_columns def) def.columns (columns_of def Base) sets cond)
 
 deletion : (def : TableDef) (part : Part) (cond : Option Expr) → IsPlainly (delete_check def part cond)
 unfolding delete_check
@@ -365,6 +370,33 @@ creation defs c = search check
 indexing : (defs : Defs) (c : CreateIndex) → IsPlainly (index_check defs c)
 unfolding index_check
 indexing defs c = goes_on _ (index_check_in c) (or_plain NoSuchTable (find_part defs c.table) tt) (λ n. search check)
+
+adding : (c : ColumnDef) (n : NamedPart) → IsPlainly (add_check_in c n)
+adding c n = search check
+
+column_dropped : (def : TableDef) (p : ℕ × ColumnDef) → IsPlainly (drop_column_check def p)
+column_dropped def p = search check
+
+live_column : (name : List ℕ) (n : NamedPart) → IsPlainly (and_then (or_refused NoSuchColumn (live_named n.0 name)) (drop_column_check n.0))
+live_column name n = goes_on (or_refused NoSuchColumn (live_named n.0 name)) (drop_column_check n.0) (or_plain NoSuchColumn (live_named n.0 name) tt) (column_dropped n.0)
+
+column_drop : (name : List ℕ) (n : NamedPart) → IsPlainly (drop_column_check_in name n)
+column_drop name n = search (check, live_column name n)
+
+alter_checked : (defs : Defs) (a : Alter) → IsPlainly (alter_check defs a)
+unfolding alter_check
+alter_checked defs (Add table c) = goes_on _ (add_check_in c) (or_plain NoSuchTable (find_part defs table) tt) (adding c)
+alter_checked defs (DropColumn table name) = goes_on _ (drop_column_check_in name) (or_plain NoSuchTable (find_part defs table) tt) (column_drop name)
+
+drop_checked : (defs : Defs) (name : List ℕ) → IsPlainly (drop_check defs name)
+unfolding drop_check
+drop_checked defs name = goes_on _ (drop_check_in defs) (or_plain NoSuchTable (find_part defs name) tt) (λ n. search check)
+
+altering : (defs : Defs) (first second : List Version) (a : Alter) → IsPlainly (alteration defs first second a)
+altering defs first second a = goes_on (alter_check defs a) _ (alter_checked defs a) (λ x. tt)
+
+dropping : (defs : Defs) (first second : List Version) (name : List ℕ) → IsPlainly (table_drop defs first second name)
+dropping defs first second name = goes_on (drop_check defs name) _ (drop_checked defs name) (λ def. tt)
 
 -- ---- SELECT
 
@@ -404,14 +436,14 @@ unfolding agg_value total
 aggregate columns rows Count = tt
 aggregate columns rows (Sum name) = folded added_up added val.Null (map (value_in (place_of columns name)) rows)
 
-what : (columns : List ColumnDef) (n : ℕ) (w : SelectList) (rows : List Row) → IsPlainly (apply_select_list columns n w rows)
-what columns n All rows = tt
-what columns n (Columns names) rows = tt
-what columns n (Aggs aggs) rows = goes_on (checked_map (agg_value columns rows) aggs) _ (each (agg_value columns rows) (aggregate columns rows) aggs) (λ values. tt)
+what : (columns : List ColumnDef) (dropped : List ℕ) (n : ℕ) (w : SelectList) (rows : List Row) → IsPlainly (apply_select_list columns dropped n w rows)
+what columns dropped n All rows = tt
+what columns dropped n (Columns names) rows = tt
+what columns dropped n (Aggs aggs) rows = goes_on (checked_map (agg_value columns rows) aggs) _ (each (agg_value columns rows) (aggregate columns rows) aggs) (λ values. tt)
 
 rows_shown : (q : Select) (n : NamedPart) (versions : List Version) → IsPlainly (query_rows q n versions)
 unfolding query_rows selected
-rows_shown q n versions = goes_on _ _ (those _ (condition _ q.cond) _) (λ taken. what _ _ q.what _)
+rows_shown q n versions = goes_on _ _ (those _ (condition _ q.cond) _) (λ taken. what _ _ _ q.what _)
 
 -- ---- replies
 
@@ -449,12 +481,16 @@ module _ (T : Tables) (tx seq : ℕ) where
   index_reply (Ok x) h = tt
   index_reply (Err e) h = h
 
+  altered_reply : (m : Checked Altered) → IsPlainly m → IsPlainReply (altered_effect T tx seq m).reply
+  altered_reply (Ok a) h = tt
+  altered_reply (Err e) h = h
+
   pub effect_reply : (stmt : Stmt) → IsPlainReply (effect T tx seq stmt).reply
   unfolding effect
   effect_reply (s.Create c) = table_reply (create_check (defs_of T) c) (creation (defs_of T) c)
   effect_reply (s.Index c) = index_reply (index_check (defs_of T) c) (indexing (defs_of T) c)
-  effect_reply (s.Alter altered) = tt
-  effect_reply (s.Drop name) = tt
+  effect_reply (s.Alter a) = altered_reply (alteration (defs_of T) (versions_of T tables_id) (versions_of T columns_id) a) (altering (defs_of T) (versions_of T tables_id) (versions_of T columns_id) a)
+  effect_reply (s.Drop name) = altered_reply (table_drop (defs_of T) (versions_of T tables_id) (versions_of T columns_id) name) (dropping (defs_of T) (versions_of T tables_id) (versions_of T columns_id) name)
   effect_reply (s.Change stmt) = row_reply stmt (row_statement_check (defs_of T) stmt) (row_statement (defs_of T) stmt)
   effect_reply (s.Select q) = query_reply q (query_check (defs_of T) q) (query (defs_of T) q)
   effect_reply s.Begin = tt

@@ -11,7 +11,7 @@ use Rattle.sql_types.specs.declared.version.Table.{Table}
 use Rattle.spec_model.specs.Catalog.{Defs, Tables, defs_of, versions_of}
 use Rattle.spec_model.specs.SystemTables.{tables_id, columns_id}
 use Rattle.spec_model.specs.Effect.{Effect, effect, with_def, redefined}
-use Rattle.spec_model.specs.ChangeSets.{changed_from, Definition, as_before, new, in_place, defined, ChangeSet, change_set}
+use Rattle.spec_model.specs.ChangeSets.{changed_from, Definition, as_before, new, in_place, altered, defined, ChangeSet, change_set}
 use Rattle.spec_model.specs.Agreement.{SameCatalog, LockRequests, requests_of, AgreeFor}
 use Rattle.spec_model.specs.Locks.{cell_requests}
 use Rattle.spec_model.specs.Reach.{creates, reaches_table}
@@ -27,7 +27,7 @@ use Rattle.law_frame.proofs.AgreeAfter.{agree_after}
 use Rattle.law_frame.proofs.SameScripts.{AlikeTables, effects}
 use Rattle.law_frame.proofs.SameTouched.{untouched_at}
 
--- ---- definitions after a CREATE
+-- ---- definitions after CREATE, ALTER and DROP
 
 defs_append : (T : Tables) (t : Table) → defs_of (T ++ t ∷ []) ≡ defs_of T ++ t.def ∷ []
 defs_append [] t = refl
@@ -41,6 +41,13 @@ defs_redefined : (def : TableDef) (T : Tables) → defs_of (redefined def T) ≡
 defs_redefined def [] = refl
 defs_redefined def (t ∷ ts) = rw (def_if def (t.def.id == def.id) t, defs_redefined def ts) refl
 
+redefined_same : (def : TableDef) (T U : Tables) → SameCatalog T U → SameCatalog (redefined def T) (redefined def U)
+redefined_same def T U h = record {
+  definitions = defs_redefined def T ∙ ap (map (λ (d : TableDef). if d.id == def.id then def else d)) h.definitions ∙ sym (defs_redefined def U);
+  tables = redefined_table def tables_id T ∙ h.tables ∙ sym (redefined_table def tables_id U);
+  columns = redefined_table def columns_id T ∙ h.columns ∙ sym (redefined_table def columns_id U);
+}
+
 defined_same : (d : Definition) (T U : Tables) → SameCatalog T U → SameCatalog (defined d T) (defined d U)
 defined_same as_before T U h = h
 defined_same (new def) T U h = record {
@@ -48,11 +55,8 @@ defined_same (new def) T U h = record {
   tables = new_table def tables_id T ∙ h.tables ∙ sym (new_table def tables_id U);
   columns = new_table def columns_id T ∙ h.columns ∙ sym (new_table def columns_id U);
 }
-defined_same (in_place def) T U h = record {
-  definitions = defs_redefined def T ∙ ap (map (λ (d : TableDef). if d.id == def.id then def else d)) h.definitions ∙ sym (defs_redefined def U);
-  tables = redefined_table def tables_id T ∙ h.tables ∙ sym (redefined_table def tables_id U);
-  columns = redefined_table def columns_id T ∙ h.columns ∙ sym (redefined_table def columns_id U);
-}
+defined_same (in_place def) T U h = redefined_same def T U h
+defined_same (altered def) T U h = redefined_same def T U h
 
 module _ (T U : Tables) (tx : ℕ) (sound : Sound tx 0 T) (sound_too : Sound tx 0 U) where
   same_catalog : (stmt : Stmt) → SameCatalog T U → AgreeFor T U (requests_of (defs_of T) false stmt) → SameCatalog (effect T tx 0 stmt).tables (effect U tx 0 stmt).tables
@@ -80,8 +84,8 @@ module _ (T U : Tables) (tx : ℕ) (sound : Sound tx 0 T) (sound_too : Sound tx 
   alone_end : (stmt : Stmt) → AgreeFor T U (requests_of (defs_of T) false stmt) → SameEnd (alone tx (start T) stmt) (alone tx (start U) stmt)
   alone_end (s.Create c) a = effect_end (s.Create c) a
   alone_end (s.Index c) a = effect_end (s.Index c) a
-  alone_end (s.Alter altered) a = record { reply = refl; seq = refl }
-  alone_end (s.Drop name) a = record { reply = refl; seq = refl }
+  alone_end (s.Alter x) a = effect_end (s.Alter x) a
+  alone_end (s.Drop name) a = effect_end (s.Drop name) a
   alone_end (s.Change stmt) a = effect_end (s.Change stmt) a
   alone_end (s.Select q) a = effect_end (s.Select q) a
   alone_end s.Begin a = record { reply = refl; seq = refl }
@@ -99,8 +103,8 @@ module _ (T U : Tables) (tx : ℕ) (sound : Sound tx 0 T) (sound_too : Sound tx 
   own_changes None a = refl
   own_changes (Some (s.Create c)) a = ap (λ (p : ChangeSet). p.changes) (same_change_set T U sound.ids (s.Create c) a)
   own_changes (Some (s.Index c)) a = ap (λ (p : ChangeSet). p.changes) (same_change_set T U sound.ids (s.Index c) a)
-  own_changes (Some (s.Alter altered)) a = refl
-  own_changes (Some (s.Drop name)) a = refl
+  own_changes (Some (s.Alter x)) a = ap (λ (p : ChangeSet). p.changes) (same_change_set T U sound.ids (s.Alter x) a)
+  own_changes (Some (s.Drop name)) a = ap (λ (p : ChangeSet). p.changes) (same_change_set T U sound.ids (s.Drop name) a)
   own_changes (Some (s.Change stmt)) a = ap (λ (p : ChangeSet). p.changes) (same_change_set T U sound.ids (s.Change stmt) a)
   own_changes (Some (s.Select q)) a = ap (λ (p : ChangeSet). p.changes) (same_change_set T U sound.ids (s.Select q) a)
   own_changes (Some s.Begin) a = refl
@@ -133,8 +137,8 @@ module _ (T U : Tables) (tx : ℕ) (sound : Sound tx 0 T) (sound_too : Sound tx 
   unfolding cell_requests
   own_versions reads (s.Create c) a = λ id. system_or_not (s.Create c) (same_catalog (s.Create c) a.catalog a) id (id == tables_id) (id == columns_id) refl refl (λ D. refl)
   own_versions reads (s.Index c) a = λ id. system_or_not (s.Index c) (same_catalog (s.Index c) a.catalog a) id (id == tables_id) (id == columns_id) refl refl (λ D. refl)
-  own_versions reads (s.Alter altered) a = none_yet
-  own_versions reads (s.Drop name) a = none_yet
+  own_versions reads (s.Alter x) a = λ id. system_or_not (s.Alter x) (same_catalog (s.Alter x) a.catalog a) id (id == tables_id) (id == columns_id) refl refl (λ D. refl)
+  own_versions reads (s.Drop name) a = λ id. system_or_not (s.Drop name) (same_catalog (s.Drop name) a.catalog a) id (id == tables_id) (id == columns_id) refl refl (λ D. refl)
   own_versions reads (s.Change x) a = only_change (s.Change x) reads refl a.catalog a
   own_versions reads (s.Select q) a = only_change (s.Select q) reads refl a.catalog a
   own_versions reads s.Begin a = none_yet
@@ -153,7 +157,7 @@ module _ (T U : Tables) (tx : ℕ) (sound : Sound tx 0 T) (sound_too : Sound tx 
   none_saved V None = refl
   none_saved V (Some (s.Create c)) = refl
   none_saved V (Some (s.Index c)) = refl
-  none_saved V (Some (s.Alter altered)) = refl
+  none_saved V (Some (s.Alter x)) = refl
   none_saved V (Some (s.Drop name)) = refl
   none_saved V (Some (s.Change x)) = refl
   none_saved V (Some (s.Select q)) = refl
@@ -196,8 +200,8 @@ module _ (T U : Tables) (tx : ℕ) (sound : Sound tx 0 T) (sound_too : Sound tx 
         created : (x : Stmt) → creates x ≡ true → AgreeFor T U (requests_of (defs_of T) false x) → SameCatalog (alone tx (start T) x).0.tables (alone tx (start U) x).0.tables
         created (s.Create c) i b = same_catalog (s.Create c) b.catalog b
         created (s.Index c) i b = same_catalog (s.Index c) b.catalog b
-        created (s.Alter altered) i b = cc
-        created (s.Drop name) i b = cc
+        created (s.Alter y) i b = same_catalog (s.Alter y) b.catalog b
+        created (s.Drop name) i b = same_catalog (s.Drop name) b.catalog b
         created (s.Change y) i b = cc
         created (s.Select q) i b = cc
         created s.Begin i b = cc
@@ -215,8 +219,8 @@ module _ (T U : Tables) (tx : ℕ) (sound : Sound tx 0 T) (sound_too : Sound tx 
       kept_agree : (stmt : Stmt) → creates stmt ≡ false → AgreeFor T U (requests_of (defs_of T) false stmt) → AllByRecursion (AgreeFor (alone tx (start T) stmt).0.tables (alone tx (start U) stmt).0.tables) ws
       kept_agree (s.Create c) k a = cc
       kept_agree (s.Index c) k a = cc
-      kept_agree (s.Alter altered) k a = agree
-      kept_agree (s.Drop name) k a = agree
+      kept_agree (s.Alter x) k a = cc
+      kept_agree (s.Drop name) k a = cc
       kept_agree (s.Change x) k a = (effects reads tx (defs_of T) ws 0 T U (s.Change x) refl a.catalog alike a).tables.agree
       kept_agree (s.Select q) k a = (effects reads tx (defs_of T) ws 0 T U (s.Select q) refl a.catalog alike a).tables.agree
       kept_agree s.Begin k a = agree

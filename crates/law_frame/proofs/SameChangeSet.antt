@@ -19,14 +19,16 @@ use Rattle.spec_model.specs.Rows.{Row}
 use Rattle.spec_model.specs.Keys.{Key, key_of, same_key, of_key, part_read, live_by_key, live_by_key_at, has_live_row_at}
 use Rattle.spec_model.specs.Parts.{columns_of, shown_of, base_row, rows_of}
 use Rattle.spec_model.specs.Where.{key_fixed}
-use Rattle.spec_model.specs.Changes.{kept_row, arranged, is_duplicate, one_more, inserted_rows, versions_matched, insertion, row_changes}
-use Rattle.spec_model.specs.Catalog.{NamedPart, Tables, defs_of, versions_of}
+use Rattle.spec_model.specs.Changes.{written_names, kept_row, arranged, is_duplicate, one_more, inserted_rows, versions_matched, insertion, row_changes}
+use Rattle.spec_model.specs.Catalog.{Defs, NamedPart, Tables, defs_of, versions_of}
 use Rattle.spec_model.specs.Checks.{row_statement_check}
 use Rattle.spec_model.specs.Query.{query_check, selected}
+use Rattle.spec_model.specs.SystemTables.{tables_id, columns_id}
 use Rattle.spec_model.specs.Create.{create_check, index_check}
+use Rattle.spec_model.specs.Alter.{Altered, alteration, table_drop}
 use Rattle.spec_model.specs.Effect.{Effect, effect, query_rows}
 use Rattle.spec_model.specs.Locks as request
-use Rattle.spec_model.specs.ChangeSets.{ChangeSet, row_change_set, row_stmt_change_set, select_change_set, query_change_set, create_table_change_set, create_index_change_set, change_set}
+use Rattle.spec_model.specs.ChangeSets.{ChangeSet, row_change_set, row_stmt_change_set, select_change_set, query_change_set, create_table_change_set, create_index_change_set, altered_change_set, change_set}
 use Rattle.spec_model.specs.Agreement.{AgreeOnAll, AgreeInCell, SameCatalog, IdsFrom, AgreeFor, requests_of}
 use Rattle.law_frame.proofs.Checked.{and_then_same, Parts, parts}
 use Rattle.law_frame.proofs.InsertedKeys.{inserted_key}
@@ -96,7 +98,7 @@ pub same_changes : (def : TableDef) (stmt : RowStmt) (V W : List Version) → Ag
 unfolding row_changes request.row_requests versions_matched
 same_changes def (Insert table names rows) V W h =
     ap (λ m. and_then m (λ kept. Ok (insertion def.columns kept)))
-    (by_requests def.columns names V W rows (all_some (map (request.key_inserted def.columns names) rows)) refl h)
+    (by_requests def.columns (written_names def names) V W rows (all_some (map (request.key_inserted def.columns (written_names def names)) rows)) refl h)
 same_changes def (Update table sets cond) V W h = rw (live_same def.columns (key_fixed def.columns cond) V W (changer_agrees def.columns (key_fixed def.columns cond) V W h)) refl
 same_changes def (Delete table cond) V W h = rw (live_same def.columns (key_fixed def.columns cond) V W (changer_agrees def.columns (key_fixed def.columns cond) V W h)) refl
 
@@ -112,7 +114,7 @@ module _ (T U : Tables) (ids : IdsFrom 1 (defs_of T)) where
 
   pub rows_by_requests : (q : Select) (n : NamedPart) (V W : List Version) → (n.1 ≡ System → V ≡ W) → AgreeOnAll n.0.columns (request.query_requests n q) V W → query_rows q n V ≡ query_rows q n W
   unfolding query_rows request.query_requests rows_of
-  rows_by_requests q (def, Base) V W sys h = ap (λ vs. selected (columns_of def Base) (shown_of def Base) q (map (base_row def.columns) vs)) (live_same def.columns (key_fixed def.columns q.cond) V W (reader_agrees def.columns (key_fixed def.columns q.cond) V W h))
+  rows_by_requests q (def, Base) V W sys h = ap (λ vs. selected (columns_of def Base) def.dropped (shown_of def Base) q (map (base_row def.columns) vs)) (live_same def.columns (key_fixed def.columns q.cond) V W (reader_agrees def.columns (key_fixed def.columns q.cond) V W h))
   rows_by_requests q (def, History) V W sys h = rw (h.0) refl
   rows_by_requests q (def, View) V W sys h = rw (h.0) refl
   rows_by_requests q (def, System) V W sys h = rw (sys refl) refl
@@ -133,14 +135,23 @@ module _ (T U : Tables) (ids : IdsFrom 1 (defs_of T)) where
       (subst (λ (columns : List ColumnDef). AgreeOnAll columns (request.query_requests n q) (versions_of T n.0.id) (versions_of U n.0.id)) has_listing.columns h))
   by_query q (Err r) e c h = refl
 
+  -- ---- ALTER and DROP
+
+  one_alteration : (check : Defs → List Version → List Version → Checked Altered) → SameCatalog T U
+      → altered_change_set (check (defs_of T) (versions_of T tables_id) (versions_of T columns_id)) ≡ altered_change_set (check (defs_of U) (versions_of U tables_id) (versions_of U columns_id))
+  one_alteration check c =
+      ap (λ (defs : Defs). altered_change_set (check defs (versions_of T tables_id) (versions_of T columns_id))) c.definitions
+      ∙ ap (λ (first : List Version). altered_change_set (check (defs_of U) first (versions_of T columns_id))) c.tables
+      ∙ ap (λ (second : List Version). altered_change_set (check (defs_of U) (versions_of U tables_id) second)) c.columns
+
   -- ---- all statements
 
   pub same_change_set : (stmt : Stmt) → AgreeFor T U (requests_of (defs_of T) false stmt) → change_set T stmt ≡ change_set U stmt
   unfolding change_set request.cell_requests
   same_change_set (s.Create c) a = ap (λ defs. create_table_change_set (create_check defs c)) a.catalog.definitions
   same_change_set (s.Index c) a = ap (λ defs. create_index_change_set (index_check defs c)) a.catalog.definitions
-  same_change_set (s.Alter altered) a = refl
-  same_change_set (s.Drop name) a = refl
+  same_change_set (s.Alter x) a = one_alteration (λ defs first second. alteration defs first second x) a.catalog
+  same_change_set (s.Drop name) a = one_alteration (λ defs first second. table_drop defs first second name) a.catalog
   same_change_set (s.Change stmt) a =
       by_check stmt (row_statement_check (defs_of T) stmt) refl a.cell
       ∙ ap (λ defs. row_stmt_change_set U stmt (row_statement_check defs stmt)) a.catalog.definitions

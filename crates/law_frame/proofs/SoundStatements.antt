@@ -12,24 +12,28 @@ use Rattle.sql_types.specs.declared.statement.CreateTable.{CreateTable}
 use Rattle.sql_types.specs.declared.statement.CreateIndex.{CreateIndex}
 use Rattle.sql_types.specs.declared.table.TableDef.{TableDef}
 use Rattle.sql_types.specs.declared.table.IndexDef.{IndexDef}
+use Rattle.sql_types.specs.declared.table.Part.TheVariants.{Base}
 use Rattle.sql_types.specs.declared.version.Table.{Table}
 use Rattle.spec_model.specs.Refusals.{Checked, or_refused}
 use Rattle.spec_model.specs.Lists.{repeats, has_name}
 use Rattle.spec_model.specs.Checks.{refused_if}
-use Rattle.spec_model.specs.Catalog.{Defs, Tables, defs_of, find_part}
-use Rattle.spec_model.specs.SystemTables.{first_tables}
+use Rattle.spec_model.specs.Catalog.{Defs, Tables, defs_of, versions_of, find_part}
+use Rattle.spec_model.specs.SystemTables.{tables_id, columns_id, first_tables}
 use Rattle.spec_model.specs.Create.{names_of, table_names, all_names, table_def, create_check, next_id, has_bad_name, exceeds_limit, has_null_key, is_ledger_name, with_index, index_def, index_check_in, index_check}
+use Rattle.spec_model.specs.Alter.{Altered, alteration, table_drop}
 use Rattle.spec_model.specs.Effect.{Effect, effect, with_def, redefined}
-use Rattle.spec_model.specs.ChangeSets.{TableChange, changed_from, Definition, defined, ChangeSet, change_set, create_table_change_set, create_index_change_set, carried_out}
+use Rattle.spec_model.specs.ChangeSets.{TableChange, changed_from, Definition, defined, ChangeSet, change_set, create_table_change_set, create_index_change_set, altered_change_set, carried_out}
 use Rattle.spec_model.specs.Agreement.{IdsFrom}
 use Rattle.spec_model.specs.Reach.{creates}
 use Rattle.spec_model.specs.Runs.{SoundTable, Sound}
+use Rattle.law_frame.specs.Alters.{Altering}
 use Rattle.law_frame.proofs.Checked.{Led, led, was_passed}
 use Rattle.law_frame.proofs.Alls.{all_append, all_map}
 use Rattle.law_frame.proofs.ChangeSets.{carries_change_set_out}
 use Rattle.law_frame.proofs.NamedPart.{IsAmongDefs, found_is_listed, was_found}
 use Rattle.law_frame.proofs.AtTable.{names_at}
 use Rattle.law_frame.proofs.Definitions.{changes_keep_defs, change_set_keeps}
+use Rattle.law_frame.proofs.Alterations.{alteration_alters, drop_alters}
 use Rattle.law_frame.proofs.Sounds.{sound_all}
 
 -- ---- CREATE TABLE
@@ -118,6 +122,24 @@ module _ (tx : ℕ) where
       }
   index_sound seq T c (Err e) check h = subst (λ (n : ℕ). Sound tx n T) (omega arith) h
 
+  -- ---- ALTER and DROP
+
+  altered_sound : (seq : ℕ) (T : Tables) (m : Checked Altered) → ((a : Altered) → m ≡ Ok a → Altering (defs_of T) a.def) → Sound tx seq T
+      → (let e : Effect = carried_out T tx seq (altered_change_set m) in Sound tx e.seq e.tables)
+  altered_sound seq T (Ok a) alters h =
+      let cs : List TableChange = (altered_change_set (Ok a)).changes in
+      let U : Tables = changed_from tx seq cs T in
+      let k : Sound tx (seq + length cs) U = sound_all tx seq cs T h in
+      let w : Altering (defs_of T) a.def = alters a refl in
+      let has_listing : IsAmongDefs 1 (defs_of T) w.old = found_is_listed 1 (defs_of T) w.name (w.old, Base) h.ids w.found in
+      let before : repeats (names_of w.old.columns) ≡ false = subst (λ (ds : List ColumnDef). repeats (names_of ds) ≡ false) has_listing.columns (names_at tx seq w.old.id T h.each) in
+      record {
+        ids = ids_redefined a.def 1 U k.ids;
+        each = all_map (SoundTable tx (seq + length cs)) (SoundTable tx (seq + length cs)) (λ t. if t.def.id == a.def.id then with_def a.def t else t)
+            (λ t. table_redefined (seq + length cs) a.def (w.alters.names before) (t.def.id == a.def.id) t) U k.each;
+      }
+  altered_sound seq T (Err e) alters h = subst (λ (n : ℕ). Sound tx n T) (omega arith) h
+
   -- ---- all statements
 
   pub kept_sound : (seq : ℕ) (T : Tables) (stmt : Stmt) → creates stmt ≡ false → Sound tx seq T → (let e : Effect = effect T tx seq stmt in Sound tx e.seq e.tables)
@@ -131,8 +153,12 @@ module _ (tx : ℕ) where
   by_create false seq T stmt e h = kept_sound seq T stmt e h
   by_create true seq T (s.Create c) e h = subst (λ (x : Effect). Sound tx x.seq x.tables) (sym (carries_change_set_out T tx seq (s.Create c))) (table_sound seq T c (create_check (defs_of T) c) refl h)
   by_create true seq T (s.Index c) e h = subst (λ (x : Effect). Sound tx x.seq x.tables) (sym (carries_change_set_out T tx seq (s.Index c))) (index_sound seq T c (index_check (defs_of T) c) refl h)
-  by_create true seq T (s.Alter altered) e h = cc
-  by_create true seq T (s.Drop name) e h = cc
+  by_create true seq T (s.Alter x) e h =
+      subst (λ (f : Effect). Sound tx f.seq f.tables) (sym (carries_change_set_out T tx seq (s.Alter x)))
+      (altered_sound seq T (alteration (defs_of T) (versions_of T tables_id) (versions_of T columns_id) x) (alteration_alters (defs_of T) (versions_of T tables_id) (versions_of T columns_id) x) h)
+  by_create true seq T (s.Drop name) e h =
+      subst (λ (f : Effect). Sound tx f.seq f.tables) (sym (carries_change_set_out T tx seq (s.Drop name)))
+      (altered_sound seq T (table_drop (defs_of T) (versions_of T tables_id) (versions_of T columns_id) name) (drop_alters (defs_of T) (versions_of T tables_id) (versions_of T columns_id) name) h)
   by_create true seq T (s.Change stmt) e h = cc
   by_create true seq T (s.Select q) e h = cc
   by_create true seq T s.Begin e h = cc

@@ -54,7 +54,7 @@ module _ (tx : ℕ) (Such : Stmt → Type 0) (P : State → Type 0) (k : KeepsWh
   statement_keeps : (x : State) (stmt : Stmt) → Such stmt → P x → P (in_transaction tx x stmt).0
   statement_keeps x (s.Create c) q h = h
   statement_keeps x (s.Index c) q h = h
-  statement_keeps x (s.Alter altered) q h = h
+  statement_keeps x (s.Alter a) q h = h
   statement_keeps x (s.Drop name) q h = h
   statement_keeps x (s.Change stmt) q h = k.by_change x (s.Change stmt) refl q h
   statement_keeps x (s.Select query) q h = k.by_change x (s.Select query) refl q h

@@ -104,8 +104,8 @@ module _ (tx n : ℕ) where
     unfolding change_set
     change_set_undoes (s.Create c) e = cc
     change_set_undoes (s.Index c) e = cc
-    change_set_undoes (s.Alter altered) e = tt
-    change_set_undoes (s.Drop name) e = tt
+    change_set_undoes (s.Alter x) e = cc
+    change_set_undoes (s.Drop name) e = cc
     change_set_undoes (s.Change stmt) e = row_stmt_change_set_undoes stmt (row_statement_check (defs_of T) stmt)
     change_set_undoes (s.Select q) e = query_change_set_undoes q (query_check (defs_of T) q)
     change_set_undoes s.Begin e = tt

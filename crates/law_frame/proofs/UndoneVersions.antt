@@ -16,7 +16,7 @@ use Rattle.spec_model.specs.Lists.{inserted, checked_map}
 use Rattle.spec_model.specs.Rows.{Row, EventId, same_event, start_cmp, started, with_end, ended, live, stored_row}
 use Rattle.spec_model.specs.Keys.{Key, key_cmp, same_key, version_key, part_read, live_by_key, live_by_key_at}
 use Rattle.spec_model.specs.Where.{key_fixed}
-use Rattle.spec_model.specs.Changes.{Change, Starts, Ends, Changes, changed, inserted_rows, versions_matched, row_after_set, replaced, insertion, replacement, deletion, row_changes}
+use Rattle.spec_model.specs.Changes.{Change, Starts, Ends, Changes, changed, written_names, inserted_rows, versions_matched, row_after_set, replaced, insertion, replacement, deletion, row_changes}
 use Rattle.spec_model.specs.Undo.{is_undone, end_left, end_undone, versions_undone}
 use Rattle.spec_model.specs.Runs.{Rising, IsBefore, EndsBefore, MadeBefore}
 use Rattle.law_frame.proofs.Checked.{Led, led}
@@ -157,7 +157,7 @@ module _ (tx n : ℕ) where
   pub row_undoes : (def : TableDef) (stmt : RowStmt) (V : List Version) (c : Changes) → Rising V → row_changes def V stmt ≡ Ok c → AllByRecursion (Undoes V) c.0
   unfolding row_changes
   row_undoes def (Insert table names rows) V c r e =
-      let l : Led (inserted_rows def.columns V names rows) (λ kept. Ok (insertion def.columns kept)) c = led _ _ c e in
+      let l : Led (inserted_rows def.columns V (written_names def names) rows) (λ kept. Ok (insertion def.columns kept)) c = led _ _ c e in
       let is : insertion def.columns l.value ≡ c = cc in
       subst (λ (d : Changes). AllByRecursion (Undoes V) d.0) is (starts_undone def.columns V l.value)
   row_undoes def (Update table sets cond) V c r e =

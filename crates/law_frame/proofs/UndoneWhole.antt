@@ -57,8 +57,8 @@ module _ (reads : Reading) (T : Tables) (tx : ℕ) (sound : Sound tx 0 T) where
   alone_undone : (stmt : Stmt) → creates stmt ≡ false → undone tx 0 (alone tx (start T) stmt).0.tables ≡ T
   alone_undone (s.Create c) k = cc
   alone_undone (s.Index c) k = cc
-  alone_undone (s.Alter altered) k = before.undo
-  alone_undone (s.Drop name) k = before.undo
+  alone_undone (s.Alter x) k = cc
+  alone_undone (s.Drop name) k = cc
   alone_undone (s.Change x) k = whole_undone T tx 0 (s.Change x) sound refl
   alone_undone (s.Select q) k = whole_undone T tx 0 (s.Select q) sound refl
   alone_undone s.Begin k = before.undo

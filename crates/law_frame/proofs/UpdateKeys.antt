@@ -18,6 +18,7 @@ use Rattle.sql_types.specs.declared.version.Version.{Version}
 use Rattle.spec_model.specs.Refusals.{Checked}
 use Rattle.spec_model.specs.Columns.{place_of}
 use Rattle.spec_model.specs.Lists.{has_name, repeats}
+use Rattle.spec_model.specs.LiveColumns.{live_columns}
 use Rattle.spec_model.specs.Rows.{Row, values_of, row_of, stored_row, value_or_null}
 use Rattle.sql_types.specs.declared.table.Part.TheVariants.{Base}
 use Rattle.spec_model.specs.Parts.{base_row, columns_of}
@@ -122,10 +123,10 @@ update_keeps_key columns sets v row r none e =
     set c x = value_set columns (base_row columns v) c x (expr_set sets c.name)
 
 -- KeyNotUpdatable
-sets_passed : (declared columns : List ColumnDef) (sets : List (List ℕ × Expr)) (cond : Option Expr) → sets_check declared columns sets cond ≡ Ok tt → list_any (λ s. is_in_key declared s.0) sets ≡ false
+sets_passed : (live declared columns : List ColumnDef) (sets : List (List ℕ × Expr)) (cond : Option Expr) → sets_check live declared columns sets cond ≡ Ok tt → list_any (λ s. is_in_key declared s.0) sets ≡ false
 unfolding sets_check
-sets_passed declared columns sets cond e = was_passed _ KeyNotUpdatable _ tt (not_refused _ NoSuchColumn _ tt e)
+sets_passed live declared columns sets cond e = was_passed _ KeyNotUpdatable _ tt (not_refused _ NoSuchColumn _ tt e)
 
 pub sets_no_key : (def : TableDef) (part : Part) (sets : List (List ℕ × Expr)) (cond : Option Expr) → update_check def part sets cond ≡ Ok tt → list_any (λ s. is_in_key def.columns s.0) sets ≡ false
 unfolding update_check
-sets_no_key def part sets cond e = sets_passed def.columns (columns_of def Base) sets cond (not_refused _ AppendOnlyTable _ tt (not_refused _ ReadOnlyTable _ tt (not_refused _ NameConflict _ tt e)))
+sets_no_key def part sets cond e = sets_passed (live_columns def) def.columns (columns_of def Base) sets cond (not_refused _ AppendOnlyTable _ tt (not_refused _ ReadOnlyTable _ tt (not_refused _ NameConflict _ tt e)))

@@ -12,8 +12,8 @@ module _ (tx : ℕ) (A : ℕ → Tables → Type 0)
   alone_keeps : (x : State) (stmt : Stmt) → Throughout A x → Throughout A (alone tx x stmt).0
   alone_keeps x (s.Create c) h = (step x.seq x.tables (s.Create c) h.0, h.1)
   alone_keeps x (s.Index c) h = (step x.seq x.tables (s.Index c) h.0, h.1)
-  alone_keeps x (s.Alter altered) h = h
-  alone_keeps x (s.Drop name) h = h
+  alone_keeps x (s.Alter a) h = (step x.seq x.tables (s.Alter a) h.0, h.1)
+  alone_keeps x (s.Drop name) h = (step x.seq x.tables (s.Drop name) h.0, h.1)
   alone_keeps x (s.Change stmt) h = (step x.seq x.tables (s.Change stmt) h.0, h.1)
   alone_keeps x (s.Select q) h = (step x.seq x.tables (s.Select q) h.0, h.1)
   alone_keeps x s.Begin h = h

@@ -8,11 +8,14 @@ ghost use Rattle.sql_types.specs.declared.lock.Mode.TheVariants.{S, X};
 ghost use Rattle.sql_types.specs.declared.lock.LockRequest.{LockRequest};
 ghost use Rattle.sql_types.specs.declared.statement.Stmt.{Stmt};
 ghost use Rattle.sql_types.specs.declared.reply.Reply.TheVariants.{Refused};
+ghost use Rattle.sql_types.specs.declared.table.TableDef.{TableDef};
 ghost use Rattle.spec_model.specs.Catalog.{Defs, Tables, defs_of};
+ghost use Rattle.spec_model.specs.ChangeSets.{altered, change_set};
 ghost use Rattle.spec_model.specs.Effect.{effect};
 ghost use Rattle.spec_model.specs.Locks.{catalog_request, cell_requests, conflict, some_conflict, clash};
 ghost use Rattle.spec_model.specs.Reach.{creates};
 ghost use Rattle.spec_model.specs.Script.{Reading, State, start, in_transaction, script};
+ghost use Rattle.law_frame.specs.Alters.{Altering};
 
 /// A statement that doesn't create leaves all definitions: a table statement, and a transaction of such
 /// a statement alone.
@@ -49,6 +52,15 @@ pub fn creates_request_the_catalog_alone()
     ensures conflicts { (m : Mode) → (conflict X m ≡ true) × (conflict m X ≡ true) }
     ensures explicit { (tx : ℕ) (x : State) (stmt : Stmt) → creates stmt ≡ true
         → in_transaction tx x stmt ≡ (x, Refused ForbiddenInTransaction) }
+{}
+
+/// ALTER TABLE and DROP TABLE put a definition in the place of that of a user's table which stands. It has the
+/// id, the kind, the indexes and the places of the key as before. Each column keeps its place and its type, and
+/// may be NULL where it might before; columns that are added behind may be NULL. No two columns come to have one
+/// name, and there come to be no more than a table may have.
+pub fn altered_definitions_keep_keys_and_columns()
+    ensures { (T : Tables) (def : TableDef) (stmt : Stmt) → (change_set T stmt).definition ≡ altered def
+        → Altering (defs_of T) def }
 {}
 
 /// A script without texts leaves the tables and replies nothing.

@@ -15,7 +15,8 @@ pub use agreement::{
     statements_leave_what_they_dont_request, versions_are_those_of_their_keys,
 };
 pub use catalog::{
-    cell_requests_share_the_catalog, conflicting_requests_clash, creates_alone_change_definitions,
+    altered_definitions_keep_keys_and_columns, cell_requests_share_the_catalog,
+    conflicting_requests_clash, creates_alone_change_definitions,
     creates_request_the_catalog_alone, explicit_scripts_leave_definitions, no_texts_do_nothing,
 };
 pub use journals::legal_journals_keep_the_rules;

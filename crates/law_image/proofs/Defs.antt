@@ -13,10 +13,9 @@ use Rattle.spec_model.specs.Agreement.{IdsFrom}
 use Rattle.spec_model.specs.Catalog.{Defs}
 use Rattle.spec_model.specs.Create.{names_of, table_names, is_ledger_name, has_null_key}
 use Rattle.spec_model.specs.Lists.{numbered, repeats}
-use Rattle.law_catalog_rows.specs.Formed.{Formed}
 use Rattle.law_catalog_rows.specs.IsEncodableDef as law
 use Rattle.law_catalog_rows.specs.IsEncodableDef.{is_proper_name, has_its_history, dropped_are_right, is_between, greatest, is_among, number_repeats, are_key_positions, positions_of, is_encodable_column, is_encodable_index, is_encodable_def}
-use Rattle.format_image.specs.DefBytes.{IsColumn, IsIndex, rise_within, IsDef, NothingDropped, ids_rise}
+use Rattle.format_image.specs.DefBytes.{IsColumn, IsIndex, rise_within, IsDef, ids_rise}
 
 -- ---- tests
 
@@ -185,13 +184,6 @@ def_is def e =
 pub defs_are : (defs : Defs) → AllByRecursion (λ (d : TableDef). is_encodable_def d ≡ true) defs → AllByRecursion IsDef defs
 defs_are [] h = tt
 defs_are (d ∷ ds) h = (def_is d h.0, defs_are ds h.1)
-
--- no statement drops anything, so they have a spelling in the first version too
-pub none_dropped : (n : ℕ) (defs : Defs) → 3 ≤ n → IdsFrom n defs → AllByRecursion (λ (d : TableDef). 2 < d.id → Formed d) defs → AllByRecursion NothingDropped defs
-none_dropped n [] le ids f = tt
-none_dropped n (d ∷ ds) le ids f =
-    let formed : Formed d = f.0 (omega (arith, ids.0, le)) in
-    (record { gone = formed.not_gone; dropped = formed.none_dropped }, none_dropped (n + 1) ds (omega (arith, le)) ids.1 f.1)
 
 pub they_rise : (n below : ℕ) (defs : Defs) → below < n → IdsFrom n defs → ids_rise below defs ≡ true
 they_rise n below [] lt ids = refl

@@ -1,10 +1,12 @@
 -- The image of a legal journal has a spelling, where it has room.
-use Rattle.std.proofs.Common.{◌≡◌, ◌<◌, ◌≤◌, ◌+◌, ◌^◌, ◌∙◌, ℕ, refl, sym, ap, subst, true, List, [], ◌∷◌, ◌++◌, length, map, arith}
+use Rattle.std.proofs.Common.{◌≡◌, ◌<◌, ◌≤◌, ◌+◌, ◌^◌, ◌∙◌, ℕ, refl, sym, ap, subst, true, List, [], ◌∷◌, ◌++◌, length, map, arith, Some}
 use Rattle.std.proofs.lemmas.List.{length-append}
 use Rattle.std.specs.List.{AllByRecursion}
 use Rattle.sql_types.specs.JournalRules.{ItemRules}
+use Rattle.sql_types.specs.Versions.{has_statement}
 use Rattle.sql_types.specs.declared.image.TableRows.{TableRows}
 use Rattle.sql_types.specs.declared.journal.JournalItem.{JournalItem}
+use Rattle.sql_types.specs.declared.statement.Stmt.{Stmt}
 use Rattle.sql_types.specs.declared.table.IndexDef.{IndexDef}
 use Rattle.sql_types.specs.declared.table.TableDef.{TableDef}
 use Rattle.sql_types.specs.declared.version.Table.{Table}
@@ -19,7 +21,7 @@ use Rattle.law_frame.proofs.Alls.{all_append}
 use Rattle.law_frame.proofs.StepByStep.{Any}
 use Rattle.law_journal.specs.Serial.{TableOf}
 use Rattle.law_journal.proofs.Serials.{legal_tables, legal_described}
-use Rattle.law_catalog_rows.specs.Formed.{AreInFront, AllFormed}
+use Rattle.law_catalog_rows.specs.Formed.{AreInFront}
 use Rattle.law_catalog_rows.specs.Encoded.{AreEncodedByRows}
 use Rattle.law_catalog_rows.specs.Written.{ReadsWritten}
 use Rattle.law_catalog_rows.proofs.Journals.{legal_described as legal_formed, legal_ids, legal_encoded}
@@ -35,8 +37,9 @@ use Rattle.format_image.specs.ImageBytes.{IsPlaceless, AreTables, IsImage, Nothi
 use Rattle.format_image.specs.RowBytes.{IsTable}
 use Rattle.format_image.specs.Rows.{table_rows}
 use Rattle.law_image.specs.Room.{TableFitsFormat, FitsImageFormat}
-use Rattle.law_image.proofs.Defs.{defs_are, none_dropped, they_rise}
+use Rattle.law_image.proofs.Defs.{defs_are, they_rise}
 use Rattle.law_image.proofs.Entries.{records_are, entries_are}
+use Rattle.law_image.proofs.NothingDropped.{AllStand, all_stand}
 use Rattle.law_image.proofs.Rows.{KnownTable, table_is}
 
 -- ---- tables
@@ -81,11 +84,6 @@ shown_by items (a ∷ b ∷ ts) s front ids few k =
       tables_are = (of_system items a tables_def front.0 refl k.0, (of_system items b columns_def front.1 refl k.1.0, of_users items ts k.1.1 defs));
     }
 
-none_gone : (T : Tables) → IdsFrom 1 (defs_of T) → AllFormed (defs_of T) → AllByRecursion NothingDropped (user_defs T)
-none_gone [] ids f = absurd f.system
-none_gone (a ∷ []) ids f = absurd f.system
-none_gone (a ∷ b ∷ ts) ids f = none_dropped 3 (defs_of ts) (omega arith) ids.1.1 f.each.1.1
-
 module _ (reads : Reading) (gives : ReadsWritten reads) (items : List JournalItem) (legal : IsLegal reads items) where
   abbrev nothing : Tables → Type 0
   nothing T = Unit {0}
@@ -126,6 +124,12 @@ module _ (reads : Reading) (gives : ReadsWritten reads) (items : List JournalIte
         tables = s.tables_are;
       }
 
-  pub nothing_is_gone : (h : List ℕ → List ℕ) (database : List ℕ) → NothingGone (image_of h reads database items)
-  unfolding image_of
-  nothing_is_gone h database = none_gone (serial reads items) (legal_ids reads items legal) (legal_formed reads items legal).1
+users_stand : (T : Tables) → AllStand T → AllByRecursion NothingDropped (user_defs T)
+users_stand [] all = tt
+users_stand (a ∷ []) all = tt
+users_stand (a ∷ b ∷ ts) all = all.1.1
+
+pub nothing_is_gone : (h : List ℕ → List ℕ) (reads : Reading) (database : List ℕ) (items : List JournalItem)
+    → ((text : List ℕ) (stmt : Stmt) → reads text ≡ Some stmt → has_statement 1 stmt ≡ true) → IsLegal reads items → NothingGone (image_of h reads database items)
+unfolding image_of
+nothing_is_gone h reads database items first legal = users_stand (serial reads items) (all_stand reads first items legal)

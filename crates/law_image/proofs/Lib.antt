@@ -1,4 +1,5 @@
 pub mod Defs
 pub mod Entries
 pub mod Images
+pub mod NothingDropped
 pub mod Rows

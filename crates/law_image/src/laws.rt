@@ -1,8 +1,10 @@
 //! Laws of the images of legal journals.
 
-ghost use Rattle.std.specs.Prelude.{ℕ, ◌≡◌, true, List};
+ghost use Rattle.std.specs.Prelude.{ℕ, ◌≡◌, true, List, Some};
 ghost use Rattle.sql_types.specs.declared.journal.JournalItem.{JournalItem};
+ghost use Rattle.sql_types.specs.declared.statement.Stmt.{Stmt};
 ghost use Rattle.sql_types.specs.declared.table.TableDef.{TableDef};
+ghost use Rattle.sql_types.specs.Versions.{has_statement};
 ghost use Rattle.spec_model.specs.Journals.{IsLegal};
 ghost use Rattle.spec_model.specs.Script.{Reading};
 ghost use Rattle.law_catalog_rows.specs.IsEncodableDef.{is_encodable_def};
@@ -25,9 +27,10 @@ pub fn legal_images_are_encodable()
         → IsImage (image_of h reads database items) }
 {}
 
-/// No statement drops a table or a column, so an image of a legal journal that has a spelling has one in
-/// version 1 too.
+/// Where each statement that is read is one that journals of version 1 have, none drops a table or a column: so
+/// an image of a legal journal that has a spelling has one in version 1 too.
 pub fn legal_images_have_nothing_gone()
     ensures { (h : List ℕ → List ℕ) (reads : Reading) (database : List ℕ) (items : List JournalItem)
-        → ReadsWritten reads → IsLegal reads items → NothingGone (image_of h reads database items) }
+        → ((text : List ℕ) (stmt : Stmt) → reads text ≡ Some stmt → has_statement 1 stmt ≡ true)
+        → IsLegal reads items → NothingGone (image_of h reads database items) }
 {}

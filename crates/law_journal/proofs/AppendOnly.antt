@@ -1,11 +1,12 @@
 -- No statement ends a version of an append-only table.
-use Rattle.std.proofs.Common.{◌≡◌, ◌∙◌, ◌⊎◌, ℕ, ◌+◌, refl, sym, ap, subst, Bool, true, false, List, [], ◌∷◌, map, Some, None, Ok, Err, inl, inr}
+use Rattle.std.proofs.Common.{◌≡◌, ◌∙◌, ◌⊎◌, ℕ, ◌+◌, refl, sym, ap, subst, Bool, true, false, List, [], ◌∷◌, map, length, Some, None, Ok, Err, inl, inr}
 use Rattle.std.proofs.lemmas.Bool.{eqb-true}
 use Rattle.std.specs.Prelude.{◌==◌, if◌then◌else◌}
 use Rattle.std.specs.List.{AllByRecursion}
 use Rattle.sql_value.specs.declared.column.TableKind.{TableKind}
 use Rattle.sql_value.specs.declared.column.TableKind.TheVariants.{AppendOnly, Updatable}
 use Rattle.sql_value.specs.declared.refusal.Refusal.TheVariants.{NameConflict, AppendOnlyTable, ReadOnlyTable}
+use Rattle.sql_types.specs.declared.statement.Alter.{Alter}
 use Rattle.sql_types.specs.declared.statement.RowStmt.{RowStmt}
 use Rattle.sql_types.specs.declared.statement.RowStmt.TheVariants.{Insert, Update, Delete}
 use Rattle.sql_types.specs.declared.statement.CreateIndex.{CreateIndex}
@@ -19,16 +20,19 @@ use Rattle.sql_types.specs.declared.version.Table.{Table}
 use Rattle.sql_types.specs.declared.version.Version.{Version}
 use Rattle.spec_model.specs.Refusals.{Checked}
 use Rattle.spec_model.specs.Rows.{Row, start_cmp, started, stored_row}
-use Rattle.spec_model.specs.Changes.{Change, Starts, Ends, Changes, changed_all, inserted_rows, insertion, row_changes}
+use Rattle.spec_model.specs.Changes.{Change, Starts, Ends, Changes, changed_all, written_names, inserted_rows, insertion, row_changes}
 use Rattle.spec_model.specs.Catalog.{Defs, NamedPart, Tables, defs_of, find_part, versions_of, with_versions, changed_table}
 use Rattle.spec_model.specs.Checks.{refused_if, is_append_only, row_check, update_check, delete_check, row_statement_check}
 use Rattle.spec_model.specs.Query.{query_check}
 use Rattle.spec_model.specs.SystemTables.{tables_id, columns_id, columns_columns, column_rows, index_rows}
 use Rattle.spec_model.specs.Create.{create_check, index_check, with_index}
-use Rattle.spec_model.specs.Effect.{effect, done, row_effect, shown, query_rows, query_effect, table_start, column_starts, table_effect, with_system_rows, with_def, redefined, index_starts, index_effect}
+use Rattle.spec_model.specs.Effect.{effect, done, row_effect, shown, query_rows, query_effect, table_start, column_starts, table_effect, with_system_rows, with_def, redefined, index_starts, index_effect, altered_effect}
+use Rattle.spec_model.specs.Alter.{Altered, alteration, table_drop}
 use Rattle.spec_model.specs.Agreement.{IdsFrom}
 use Rattle.spec_model.specs.Runs.{Sound}
 use Rattle.spec_model.specs.Script.{Reading, script}
+use Rattle.law_frame.specs.Alters.{Altering}
+use Rattle.law_frame.proofs.Alterations.{alteration_alters, drop_alters}
 use Rattle.law_frame.proofs.Alls.{all_append, all_inserted, all_map}
 use Rattle.law_frame.proofs.Checked.{Led, led}
 use Rattle.law_frame.proofs.Definitions.{same_defs}
@@ -37,6 +41,7 @@ use Rattle.law_frame.proofs.SoundStatements.{statement_sound}
 use Rattle.law_frame.proofs.WholeScripts.{whole_script}
 use Rattle.law_journal.specs.AppendOnly.{KeepsRows, AllKeepRows}
 use Rattle.law_journal.specs.Fine.{OfTable}
+use Rattle.law_journal.proofs.Altered.{by_alter, by_drop, only_old}
 use Rattle.law_journal.proofs.Created.{Indexed, indexed}
 use Rattle.law_journal.proofs.DefLists.{IsOnly, is_listed_once}
 use Rattle.law_journal.proofs.Lift.{found_table, of_weaker}
@@ -102,7 +107,7 @@ starts_or_updates : (def : TableDef) (part : Part) (vs : List Version) (stmt : R
     → (def.kind ≡ Updatable) ⊎ AllByRecursion IsStart c.0
 unfolding row_changes update_check delete_check
 starts_or_updates def part vs (Insert table names rows) c check is =
-    let l : Led (inserted_rows def.columns vs names rows) (λ kept. Ok (insertion def.columns kept)) c = led _ _ c is in
+    let l : Led (inserted_rows def.columns vs (written_names def names) rows) (λ kept. Ok (insertion def.columns kept)) c = led _ _ c is in
     let made : insertion def.columns l.value ≡ c = cc in
     inr (subst (λ (x : Changes). AllByRecursion IsStart x.0) made (all_starts (λ row. Starts (stored_row def.columns row)) (λ row. tt) l.value))
 starts_or_updates def part vs (Update table sets cond) c check is = inl (two_passed _ _ def.kind _ check)
@@ -151,12 +156,12 @@ module _ (T : Tables) (tx seq : ℕ) (ids : IdsFrom 1 (defs_of T)) (h : AllKeepR
       let both = starts_keep columns_id tx (seq + 1) (column_starts (column_rows def)) (column_starts_start (column_rows def)) _ first in
       all_append KeepsRows _ (record { def = def; versions = [] } ∷ []) both ((λ k. tt), tt)
 
-  redefined_keeps : (x : TableDef) (index : IndexDef) (U : Tables) → AllByRecursion (IsOnly x) (defs_of U) → AllKeepRows U → AllKeepRows (redefined (with_index x index) U)
-  redefined_keeps x index [] o k = tt
-  redefined_keeps x index (t ∷ ts) o k = (here (t.def.id == x.id) refl, redefined_keeps x index ts o.1 k.1)
+  redefined_keeps : (x def : TableDef) → def.id ≡ x.id → def.kind ≡ x.kind → (U : Tables) → AllByRecursion (IsOnly x) (defs_of U) → AllKeepRows U → AllKeepRows (redefined def U)
+  redefined_keeps x def same like [] o k = tt
+  redefined_keeps x def same like (t ∷ ts) o k = (here (t.def.id == def.id) refl, redefined_keeps x def same like ts o.1 k.1)
     where
-      here : (b : Bool) → (t.def.id == x.id) ≡ b → KeepsRows (if b then with_def (with_index x index) t else t)
-      here true e = λ kind. k.0 (ap (λ (d : TableDef). d.kind) (o.0 (eqb-true t.def.id x.id e)) ∙ kind)
+      here : (b : Bool) → (t.def.id == def.id) ≡ b → KeepsRows (if b then with_def def t else t)
+      here true e = λ kind. k.0 (ap (λ (d : TableDef). d.kind) (o.0 (eqb-true t.def.id def.id e ∙ same)) ∙ sym like ∙ kind)
       here false e = k.0
 
   index_keeps : (c : CreateIndex) (m : Checked (TableDef × IndexDef)) → index_check (defs_of T) c ≡ m → AllKeepRows (index_effect T tx seq m).tables
@@ -169,14 +174,45 @@ module _ (T : Tables) (tx seq : ℕ) (ids : IdsFrom 1 (defs_of T)) (h : AllKeepR
       let defs : defs_of U ≡ defs_of T = same_defs columns_id _ _ ∙ same_defs tables_id (changed_all tx seq []) T in
       let first = starts_keep tables_id tx seq [] tt T h in
       let both = starts_keep columns_id tx (seq + 0) (index_starts x.0 x.1) (column_starts_start _) _ first in
-      redefined_keeps x.0 x.1 U (subst (λ (ds : Defs). AllByRecursion (IsOnly x.0) ds) (sym defs) only) both
+      redefined_keeps x.0 (with_index x.0 x.1) refl refl U (subst (λ (ds : Defs). AllByRecursion (IsOnly x.0) ds) (sym defs) only) both
+
+  -- ---- ALTER TABLE and DROP TABLE
+
+  abbrev StartAlone : Altered → Type 0
+  StartAlone a = AllByRecursion IsStart a.first × AllByRecursion IsStart a.second
+
+  altered_keeps : (m : Checked Altered) → ((a : Altered) → m ≡ Ok a → Altering (defs_of T) a.def × StartAlone a) → AllKeepRows (altered_effect T tx seq m).tables
+  altered_keeps (Err e) f = h
+  altered_keeps (Ok a) f =
+      let g : Altering (defs_of T) a.def × StartAlone a = f a refl in
+      let U = with_system_rows tx seq a.first a.second T in
+      let defs : defs_of U ≡ defs_of T = same_defs columns_id _ _ ∙ same_defs tables_id (changed_all tx seq a.first) T in
+      let first = starts_keep tables_id tx seq a.first g.1.0 T h in
+      let both = starts_keep columns_id tx (seq + length a.first) a.second g.1.1 _ first in
+      redefined_keeps g.0.old a.def g.0.alters.id g.0.alters.kind U (subst (λ (ds : Defs). AllByRecursion (IsOnly g.0.old) ds) (sym defs) (only_old T a.def ids g.0)) both
+
+  alter_keeps : (y : Alter) → AllKeepRows (altered_effect T tx seq (alteration (defs_of T) (versions_of T tables_id) (versions_of T columns_id) y)).tables
+  alter_keeps y =
+      altered_keeps (alteration (defs_of T) (versions_of T tables_id) (versions_of T columns_id) y)
+      (λ a e. (
+        alteration_alters (defs_of T) (versions_of T tables_id) (versions_of T columns_id) y a e,
+        by_alter (defs_of T) (versions_of T tables_id) (versions_of T columns_id) StartAlone y a e (λ x check. (tt, (tt, tt))),
+      ))
+
+  drop_keeps : (name : List ℕ) → AllKeepRows (altered_effect T tx seq (table_drop (defs_of T) (versions_of T tables_id) (versions_of T columns_id) name)).tables
+  drop_keeps name =
+      altered_keeps (table_drop (defs_of T) (versions_of T tables_id) (versions_of T columns_id) name)
+      (λ a e. (
+        drop_alters (defs_of T) (versions_of T tables_id) (versions_of T columns_id) name a e,
+        by_drop (defs_of T) (versions_of T tables_id) (versions_of T columns_id) StartAlone name a e (λ def check. ((tt, tt), tt)),
+      ))
 
   pub statement_keeps_rows : (stmt : Stmt) → AllKeepRows (effect T tx seq stmt).tables
   unfolding effect
   statement_keeps_rows (s.Create c) = table_keeps (create_check (defs_of T) c)
   statement_keeps_rows (s.Index c) = index_keeps c (index_check (defs_of T) c) refl
-  statement_keeps_rows (s.Alter altered) = h
-  statement_keeps_rows (s.Drop name) = h
+  statement_keeps_rows (s.Alter a) = alter_keeps a
+  statement_keeps_rows (s.Drop name) = drop_keeps name
   statement_keeps_rows (s.Change stmt) = row_keeps stmt (row_statement_check (defs_of T) stmt) refl
   statement_keeps_rows (s.Select q) = query_keeps q (query_check (defs_of T) q)
   statement_keeps_rows s.Begin = h

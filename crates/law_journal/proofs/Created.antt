@@ -57,10 +57,10 @@ six_false false false false false false false h = record { first = refl; second 
 at_most : (m n : ℕ) → nat_lt m n ≡ false → n ≤ m
 at_most m n e = grind (arith, nat_tests)
 
-below : (m n : ℕ) → nat_le m n ≡ false → n < m
+pub below : (m n : ℕ) → nat_le m n ≡ false → n < m
 below m n e = grind (arith, nat_tests)
 
-name_short : (x : List ℕ) → is_long x ≡ false → length x ≤ 128
+pub name_short : (x : List ℕ) → is_long x ≡ false → length x ≤ 128
 name_short x e = at_most 128 (length x) e
 
 of_named : (b : Bool) (x : List ℕ) (xs : List (List ℕ)) → is_name x ≡ b → list_any is_long (if b then x ∷ xs else xs) ≡ false → (length x ≤ 128) × (list_any is_long xs ≡ false)
@@ -68,7 +68,7 @@ of_named true x xs is e = let p = or_false (is_long x) (list_any is_long xs) e i
 of_named false [] xs is e = (omega arith, e)
 of_named false (b ∷ bs) xs is e = cc
 
-names_short : (xs : List (List ℕ)) → list_any is_long (filter is_name xs) ≡ false → AllByRecursion (λ (x : List ℕ). length x ≤ 128) xs
+pub names_short : (xs : List (List ℕ)) → list_any is_long (filter is_name xs) ≡ false → AllByRecursion (λ (x : List ℕ). length x ≤ 128) xs
 names_short [] e = tt
 names_short (x ∷ xs) e = let p = of_named (is_name x) x (filter is_name xs) refl e in (p.0, names_short xs p.1)
 

@@ -1,20 +1,23 @@
 -- Definitions after a table or an index has been made.
-use Rattle.std.proofs.Common.{◌≡◌, ◌≤◌, ◌<◌, ℕ, ◌+◌, ◌*◌, inl, inr, refl, sym, ap, ◌∙◌, Bool, true, false, [], ◌∷◌, ◌++◌, map, length, arith, length-append}
+use Rattle.std.proofs.Common.{◌≡◌, ◌≤◌, ◌<◌, ℕ, ◌+◌, ◌*◌, inl, inr, refl, sym, ap, subst, ◌∙◌, Bool, true, false, List, [], ◌∷◌, ◌++◌, map, length, arith, length-append}
 use Rattle.std.proofs.lemmas.List.{length-map}
 use Rattle.std.proofs.lemmas.Bool.{eqb-true, eq-eqb, ne_eqb}
 use Rattle.std.specs.Prelude.{◌==◌, if◌then◌else◌}
 use Rattle.std.specs.List.{AllByRecursion}
 use Rattle.std.proofs.lemmas.List.Sums.{sum_by-cons}
+use Rattle.sql_value.specs.declared.column.ColumnDef.{ColumnDef}
 use Rattle.sql_types.specs.declared.table.TableDef.{TableDef}
 use Rattle.sql_types.specs.declared.version.Table.{Table}
+use Rattle.spec_model.specs.Lists.{is_among}
 use Rattle.spec_model.specs.Rows.{EventId}
 use Rattle.spec_model.specs.Keys.{Key}
 use Rattle.spec_model.specs.Catalog.{Defs, Tables, defs_of}
 use Rattle.spec_model.specs.Effect.{with_def, redefined}
 use Rattle.spec_model.specs.Agreement.{IdsFrom}
+use Rattle.law_frame.proofs.Alls.{all_both, all_append, all_map}
 use Rattle.law_journal.specs.Fine.{OfTable}
 use Rattle.law_journal.specs.Kept.{count_all}
-use Rattle.law_journal.specs.Described.{items_below, IsTableKey, IsColumnKey}
+use Rattle.law_journal.specs.Described.{items_below, live_from, IsChange, IsTableKey, IsColumnKey}
 use Rattle.law_journal.proofs.Tables.{table_count}
 
 pub defs_append : (T : Tables) (t : Table) → defs_of (T ++ t ∷ []) ≡ defs_of T ++ t.def ∷ []
@@ -51,11 +54,39 @@ pub new_items : (n : ℕ) (def : TableDef) (defs : Defs) → IdsFrom n defs → 
 new_items n def [] ids le = rw (eq-eqb def.id def.id refl) refl
 new_items n def (d ∷ ds) ids le = rw (ne_eqb d.id def.id (λ e. absurd (omega (arith, e, ids.0, le)))) (new_items (n + 1) def ds ids.1 (omega (arith, le)))
 
-pub table_key_stays : (def : TableDef) (defs : Defs) (key : Key) → IsTableKey defs key → IsTableKey (defs ++ def ∷ []) key
-table_key_stays def defs key h = (h.0, omega (arith, h.1, length-append defs (def ∷ [])), h.2)
+pub table_key_stays : (def : TableDef) (defs : Defs) (key : Key) → length defs < def.id → IsTableKey defs key → IsTableKey (defs ++ def ∷ []) key
+table_key_stays def defs key new h = (
+  h.0,
+  h.1,
+  omega (arith, h.2, length-append defs (def ∷ [])),
+  all_append (IsChange h.0 h.1) defs (def ∷ []) h.3 ((λ e. absurd (omega (arith, e, h.2, new))), tt),
+  h.4,
+)
 
-pub column_key_stays : (def : TableDef) (defs : Defs) (key : Key) → IsColumnKey defs key → IsColumnKey (defs ++ def ∷ []) key
-column_key_stays def defs key h = (h.0, h.1, omega (arith, h.2, more_items h.0 def defs), h.3)
+pub column_key_stays : (def : TableDef) (defs : Defs) (key : Key) → IdsFrom 1 defs → length defs < def.id → IsColumnKey defs key → IsColumnKey (defs ++ def ∷ []) key
+column_key_stays def defs key ids new h = (
+  h.0,
+  h.1,
+  h.2,
+  omega (arith, h.3, more_items h.0 def defs),
+  all_append (IsChange h.0 h.2) defs (def ∷ []) h.4 ((λ e. absurd (omega (arith, h.3, no_items 1 h.0 defs ids (omega (arith, e, new))))), tt),
+  h.5,
+)
+
+-- ---- changes
+
+live_one : (b : Bool) (n m : ℕ) → n ≤ m → (if b then 0 else 1) + n ≤ m + 1
+live_one true n m h = omega (arith, h)
+live_one false n m h = omega (arith, h)
+
+pub live_at_most : (dropped : List ℕ) (n : ℕ) (cs : List ColumnDef) → live_from dropped n cs ≤ length cs
+live_at_most dropped n [] = omega arith
+live_at_most dropped n (c ∷ cs) = omega (arith, live_one (is_among dropped n) (live_from dropped (n + 1) cs) (length cs) (live_at_most dropped (n + 1) cs))
+
+-- a table may have had none
+pub no_changes : (id : ℕ) (defs : Defs) → AllByRecursion (IsChange id 0) defs
+no_changes id [] = tt
+no_changes id (d ∷ ds) = ((λ e. omega (arith, live_at_most d.dropped 1 d.columns)), no_changes id ds)
 
 -- ---- a definition in the place of another
 
@@ -134,11 +165,21 @@ module _ (x def : TableDef) (same : def.id ≡ x.id) (more : length x.indexes �
   items_stay id [] o = omega arith
   items_stay id (d ∷ ds) o = redefined_items id d ds (d.id == def.id) (d.id == id) refl refl o.0 (items_stay id ds o.1)
 
-  pub table_key_kept : (defs : Defs) (key : Key) → IsTableKey defs key → IsTableKey (redef def defs) key
-  table_key_kept defs key h = (h.0, omega (arith, h.1, length-map defs (λ (d : TableDef). if d.id == def.id then def else d)), h.2)
+  module _ (wider : (id change : ℕ) → IsChange id change x → IsChange id change def) where
+    change_kept : (id change : ℕ) (b : Bool) (d : TableDef) → (d.id == def.id) ≡ b → IsOnly x d × IsChange id change d → IsChange id change (if b then def else d)
+    change_kept id change true d e h = wider id change (subst (IsChange id change) (h.0 (eqb-true d.id def.id e ∙ same)) h.1)
+    change_kept id change false d e h = h.1
 
-  pub column_key_kept : (defs : Defs) (key : Key) → AllByRecursion (IsOnly x) defs → IsColumnKey defs key → IsColumnKey (redef def defs) key
-  column_key_kept defs key o h = (h.0, h.1, omega (arith, h.2, items_stay h.0 defs o), h.3)
+    pub changes_kept : (id change : ℕ) (defs : Defs) → AllByRecursion (IsOnly x) defs → AllByRecursion (IsChange id change) defs → AllByRecursion (IsChange id change) (redef def defs)
+    changes_kept id change defs o h =
+        all_map (λ (d : TableDef). IsOnly x d × IsChange id change d) (IsChange id change) (λ (d : TableDef). if d.id == def.id then def else d) (λ d k. change_kept id change (d.id == def.id) d refl k) defs
+        (all_both (IsOnly x) (IsChange id change) defs o h)
+
+    pub table_key_kept : (defs : Defs) (key : Key) → AllByRecursion (IsOnly x) defs → IsTableKey defs key → IsTableKey (redef def defs) key
+    table_key_kept defs key o h = (h.0, h.1, omega (arith, h.2, length-map defs (λ (d : TableDef). if d.id == def.id then def else d)), changes_kept h.0 h.1 defs o h.3, h.4)
+
+    pub column_key_kept : (defs : Defs) (key : Key) → AllByRecursion (IsOnly x) defs → IsColumnKey defs key → IsColumnKey (redef def defs) key
+    column_key_kept defs key o h = (h.0, h.1, h.2, omega (arith, h.3, items_stay h.0 defs o), changes_kept h.0 h.2 defs o h.4, h.5)
 
 -- the items of the definition in its place
 pub items_now : (n : ℕ) (x def : TableDef) (T : Tables) → def.id ≡ x.id → IdsFrom n (defs_of T) → OfTable x.id (λ t. t.def ≡ x) T → items_below (redef def (defs_of T)) x.id ≡ 1000 * (length def.indexes + 1)

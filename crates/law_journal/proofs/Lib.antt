@@ -1,10 +1,13 @@
+pub mod Altered
 pub mod AppendOnly
 pub mod Counts
 pub mod Created
 pub mod DefLists
+pub mod Entering
 pub mod Here
 pub mod Keeping
 pub mod Lift
+pub mod NewChanges
 pub mod NewRows
 pub mod NumberKeys
 pub mod Order

@@ -10,10 +10,12 @@ use Rattle.sql_types.specs.declared.table.TableDef.{TableDef}
 use Rattle.sql_types.specs.declared.table.Part.{Part}
 use Rattle.sql_types.specs.declared.version.Version.{Version}
 use Rattle.spec_model.specs.Refusals.{Checked, and_then}
-use Rattle.spec_model.specs.Lists.{checked_fold}
+use Rattle.spec_model.specs.Columns.{names_of}
+use Rattle.spec_model.specs.Lists.{without, checked_fold}
+use Rattle.spec_model.specs.LiveColumns.{live_columns}
 use Rattle.spec_model.specs.Rows.{Row, stored_row}
 use Rattle.spec_model.specs.Keys.{Key, key_of, same_key, has_live_row}
-use Rattle.spec_model.specs.Changes.{kept, kept_row, value_named, arranged, is_duplicate, one_more, inserted_rows}
+use Rattle.spec_model.specs.Changes.{kept, kept_row, value_named, names_for, written_names, arranged, is_duplicate, one_more, inserted_rows}
 use Rattle.spec_model.specs.Checks.{listed, listed_check, values_check, insert_check}
 use Rattle.law_frame.proofs.Checked.{Led, led, was_passed, not_refused}
 use Rattle.law_frame.proofs.Alls.{all_weaker, all_both, all_append}
@@ -47,18 +49,21 @@ listed_lengths : (columns : List ColumnDef) (rows : List Row) → listed_check c
 unfolding listed_check
 listed_lengths columns rows e = lengths (length columns) rows (passed_not _ (was_passed _ ValueCountMismatch _ tt e))
 
-arranged_lengths : (columns : List ColumnDef) (names : Option (List (List ℕ))) (rows : List Row) → listed_check (listed columns names) rows ≡ Ok tt → AllByRecursion (HasAll columns names) rows
+-- where a column was dropped a row is written by names
+arranged_lengths : (dropped : List ℕ) (def : TableDef) (names : Option (List (List ℕ))) (rows : List Row) → listed_check (listed (without dropped def.columns) names) rows ≡ Ok tt → AllByRecursion (HasAll def.columns (names_for dropped def names)) rows
 unfolding arranged
-arranged_lengths columns None rows e = listed_lengths columns rows e
-arranged_lengths columns (Some names) rows e = always columns names rows
+arranged_lengths [] def None rows e = listed_lengths def.columns rows e
+arranged_lengths [] def (Some names) rows e = always def.columns names rows
+arranged_lengths (n ∷ ns) def None rows e = always def.columns (names_of (live_columns def)) rows
+arranged_lengths (n ∷ ns) def (Some names) rows e = always def.columns names rows
 
 values_listed : (columns : List ColumnDef) (names : Option (List (List ℕ))) (rows : List Row) → values_check columns names rows ≡ Ok tt → listed_check (listed columns names) rows ≡ Ok tt
 unfolding values_check
 values_listed columns names rows e = not_refused _ NoSuchColumn _ tt e
 
-pub rows_have_all : (def : TableDef) (part : Part) (names : Option (List (List ℕ))) (rows : List Row) → insert_check def part names rows ≡ Ok tt → AllByRecursion (HasAll def.columns names) rows
+pub rows_have_all : (def : TableDef) (part : Part) (names : Option (List (List ℕ))) (rows : List Row) → insert_check def part names rows ≡ Ok tt → AllByRecursion (HasAll def.columns (written_names def names)) rows
 unfolding insert_check
-rows_have_all def part names rows e = arranged_lengths def.columns names rows (values_listed def.columns names rows (not_refused _ ReadOnlyTable _ tt (not_refused _ LimitExceeded _ tt (not_refused _ NameConflict _ tt e))))
+rows_have_all def part names rows e = arranged_lengths def.dropped def names rows (values_listed (live_columns def) names rows (not_refused _ ReadOnlyTable _ tt (not_refused _ LimitExceeded _ tt (not_refused _ NameConflict _ tt e))))
 
 -- ---- one row after another
 

@@ -14,8 +14,10 @@ use Rattle.sql_value.specs.Order.{value_cmp}
 use Rattle.sql_types.specs.declared.table.TableDef.{TableDef}
 use Rattle.sql_value.specs.declared.column.ColumnDef.{ColumnDef}
 use Rattle.spec_model.specs.Rows.{number, stored_row}
-use Rattle.spec_model.specs.Keys.{Key, key_places, key_cmp, same_key, key_at}
-use Rattle.spec_model.specs.SystemTables.{tables_columns, columns_columns, table_row, column_row, index_row}
+use Rattle.spec_model.specs.Keys.{Key, key_places, key_cmp, same_key, key_at, value_at, version_key}
+use Rattle.spec_model.specs.Rows.{values_of}
+use Rattle.sql_types.specs.declared.version.Version.{Version}
+use Rattle.spec_model.specs.SystemTables.{tables_columns, columns_columns, table_row, column_row, index_row, changed_table_row, changed_column_row}
 use Rattle.law_journal.specs.Fine.{key_in}
 
 ten_pos : (k : ℕ) → 0 < 10 ^ k
@@ -68,3 +70,21 @@ column_key id c = refl
 pub index_key : (id g : ℕ) (name : List ℕ) (part : ℕ × ℕ) → key_in columns_columns (stored_row columns_columns (index_row id g name part)) ≡ number id ∷ number (1000 * g + part.0) ∷ number 0 ∷ []
 unfolding key_at key_places
 index_key id g name part = refl
+
+pub changed_table_key : (change : ℕ) (def : TableDef) → key_in tables_columns (stored_row tables_columns (changed_table_row change def)) ≡ number def.id ∷ number change ∷ []
+unfolding key_at key_places changed_table_row
+changed_table_key change def = refl
+
+pub changed_column_key : (change : ℕ) (def : TableDef) (c : ℕ × ColumnDef) → key_in columns_columns (stored_row columns_columns (changed_column_row change def c)) ≡ number def.id ∷ number c.0 ∷ number change ∷ []
+unfolding key_at key_places changed_column_row
+changed_column_key change def c = refl
+
+-- ---- the keys of versions of the system tables
+
+pub table_version_key : (v : Version) → version_key tables_columns v ≡ value_at (values_of v) 0 ∷ value_at (values_of v) 1 ∷ []
+unfolding key_at key_places
+table_version_key v = refl
+
+pub column_version_key : (v : Version) → version_key columns_columns v ≡ value_at (values_of v) 0 ∷ value_at (values_of v) 1 ∷ value_at (values_of v) 2 ∷ []
+unfolding key_at key_places
+column_version_key v = refl

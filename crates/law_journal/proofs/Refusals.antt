@@ -3,6 +3,7 @@ use Rattle.std.proofs.Common.{◌≡◌, ℕ, refl, Bool, true, false, List, [],
 use Rattle.std.specs.Prelude.{if◌then◌else◌, nat_lt}
 use Rattle.sql_value.specs.declared.refusal.Refusal.{Refusal}
 use Rattle.sql_value.specs.declared.refusal.Refusal.TheVariants.{LimitExceeded}
+use Rattle.sql_types.specs.declared.statement.Alter.{Alter}
 use Rattle.sql_types.specs.declared.statement.Stmt.{Stmt}
 use Rattle.sql_types.specs.declared.statement.Stmt.TheVariants as s
 use Rattle.sql_types.specs.declared.statement.RowStmt.{RowStmt}
@@ -20,7 +21,9 @@ use Rattle.spec_model.specs.Catalog.{NamedPart, defs_of, versions_of}
 use Rattle.spec_model.specs.Checks.{row_statement_check}
 use Rattle.spec_model.specs.Query.{query_check}
 use Rattle.spec_model.specs.Create.{create_check, index_check}
-use Rattle.spec_model.specs.Effect.{Effect, done, row_effect, shown, query_rows, query_effect, table_effect, index_effect, effect}
+use Rattle.spec_model.specs.Effect.{Effect, done, row_effect, shown, query_rows, query_effect, table_effect, index_effect, altered_effect, effect}
+use Rattle.spec_model.specs.Alter.{Altered, alteration, table_drop}
+use Rattle.spec_model.specs.SystemTables.{tables_id, columns_id}
 use Rattle.spec_model.specs.Script.{Saved, State, Step, refuses, by_effect, saves, back_to, rolled_back, rolls_back_to, in_transaction, alone, by_statement}
 
 abbrev Leaves : State → Refusal → Step → Type 0
@@ -54,6 +57,10 @@ module _ (tx : ℕ) (x : State) (e : Refusal) where
   by_index (Ok y) is = cc
   by_index (Err k) is = refl
 
+  by_altered : (m : Checked Altered) → LeavesBy (altered_effect x.tables tx x.seq m)
+  by_altered (Ok a) is = cc
+  by_altered (Err k) is = refl
+
   by_change : (stmt : RowStmt) → LeavesBy (effect x.tables tx x.seq (s.Change stmt))
   unfolding effect
   by_change stmt is = by_row stmt (row_statement_check (defs_of x.tables) stmt) is
@@ -69,6 +76,14 @@ module _ (tx : ℕ) (x : State) (e : Refusal) where
   by_create_index : (c : CreateIndex) → LeavesBy (effect x.tables tx x.seq (s.Index c))
   unfolding effect
   by_create_index c is = by_index (index_check (defs_of x.tables) c) is
+
+  by_alter : (a : Alter) → LeavesBy (effect x.tables tx x.seq (s.Alter a))
+  unfolding effect
+  by_alter a is = by_altered (alteration (defs_of x.tables) (versions_of x.tables tables_id) (versions_of x.tables columns_id) a) is
+
+  by_drop : (name : List ℕ) → LeavesBy (effect x.tables tx x.seq (s.Drop name))
+  unfolding effect
+  by_drop name is = by_altered (table_drop (defs_of x.tables) (versions_of x.tables tables_id) (versions_of x.tables columns_id) name) is
 
   branch : (b : Bool) (y : State) → Leaves x e (if b then (y, r.Saved) else refuses x LimitExceeded)
   branch true y is = cc
@@ -104,8 +119,8 @@ module _ (tx : ℕ) (x : State) (e : Refusal) where
   alone_leaves : (stmt : Stmt) → Leaves x e (alone tx x stmt)
   alone_leaves (s.Create c) is = by_create c is
   alone_leaves (s.Index c) is = by_create_index c is
-  alone_leaves (s.Alter altered) is = refl
-  alone_leaves (s.Drop name) is = refl
+  alone_leaves (s.Alter a) is = by_alter a is
+  alone_leaves (s.Drop name) is = by_drop name is
   alone_leaves (s.Change stmt) is = by_change stmt is
   alone_leaves (s.Select q) is = by_select q is
   alone_leaves s.Begin is = refl

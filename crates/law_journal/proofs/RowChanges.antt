@@ -11,7 +11,7 @@ use Rattle.sql_types.specs.declared.version.Version.{Version}
 use Rattle.spec_model.specs.Refusals.{and_then}
 use Rattle.spec_model.specs.Lists.{checked_map, repeats}
 use Rattle.spec_model.specs.Rows.{Row}
-use Rattle.spec_model.specs.Changes.{Changes, inserted_rows, versions_matched, row_after_set, insertion, replacement, deletion, row_changes}
+use Rattle.spec_model.specs.Changes.{Changes, written_names, inserted_rows, versions_matched, row_after_set, insertion, replacement, deletion, row_changes}
 use Rattle.spec_model.specs.Create.{names_of}
 use Rattle.spec_model.specs.Checks.{is_in_key, row_check}
 use Rattle.spec_model.specs.Runs.{Rising}
@@ -48,10 +48,10 @@ module _ (place : ℕ → ℕ) (tx seq : ℕ) where
   pub row_fine : (def : TableDef) (part : Part) (V : List Version) (stmt : RowStmt) (c : Changes) → Ready def.columns V → row_check stmt def part ≡ Ok tt → row_changes def V stmt ≡ Ok c → AllHere def.columns tx seq c.0 V
   unfolding row_changes
   row_fine def part V (Insert table names rows) c r check e =
-      let l : Led (inserted_rows def.columns V names rows) (λ kept. Ok (insertion def.columns kept)) c = led _ _ c e in
+      let l : Led (inserted_rows def.columns V (written_names def names) rows) (λ kept. Ok (insertion def.columns kept)) c = led _ _ c e in
       let is : insertion def.columns l.value ≡ c = cc in
       subst (λ (d : Changes). AllHere def.columns tx seq d.0 V) is
-      (starts_fine def.columns tx seq l.value V (inserted_new def.columns V names rows l.value (rows_have_all def part names rows check) l.was))
+      (starts_fine def.columns tx seq l.value V (inserted_new def.columns V (written_names def names) rows l.value (rows_have_all def part names rows check) l.was))
   row_fine def part V (Update table sets cond) c r check e =
       let l : Led (versions_matched def.columns cond V) (λ taken. and_then (checked_map (row_after_set def.columns sets) taken) (λ rows. Ok (replacement def.columns (zip taken rows)))) c = led _ _ c e in
       let k : Led (checked_map (row_after_set def.columns sets) l.value) (λ rows. Ok (replacement def.columns (zip l.value rows))) c = led _ _ c l.then_ in

@@ -1,8 +1,11 @@
--- Rows that fit so far: filled they fit, also with one column more, and where the last column may not be NULL they are whole.
-use Rattle.std.proofs.Common.{◌≡◌, ◌≤◌, suc, refl, ap, true, false, List, [], ◌∷◌, ◌++◌, length, take, Option, arith}
+-- Rows that fit so far: filled they fit, also with one column more and in altered columns, and where the last column may not be NULL they are whole.
+use Rattle.std.proofs.Common.{◌≡◌, ◌≤◌, suc, refl, sym, ap, subst, ◌∙◌, true, false, List, [], ◌∷◌, ◌++◌, length, take, Option, Some, None, arith}
 use Rattle.sql_value.specs.declared.column.ColumnDef.{ColumnDef}
+use Rattle.sql_value.specs.declared.sql_type.SqlType.{SqlType}
+use Rattle.sql_value.specs.Stored.{is_stored}
 use Rattle.sql_types.specs.declared.version.TypedValue.{TypedValue}
 use Rattle.spec_model.specs.Rows.{filled_stored}
+use Rattle.law_frame.specs.Alters.{ColumnsStay}
 use Rattle.law_journal.specs.Fits.{Fits, FitsSoFar}
 
 pub so_far : (cs : List ColumnDef) (values : List (Option TypedValue)) → Fits cs values → FitsSoFar cs values
@@ -22,6 +25,19 @@ one_more_fits [] c [] h e = (e, tt)
 one_more_fits [] c (v ∷ vs) h e = absurd h
 one_more_fits (d ∷ cs) c [] h e = (h.0, one_more_fits cs c [] h.1 e)
 one_more_fits (d ∷ cs) c (v ∷ vs) h e = (h.0, one_more_fits cs c vs h.1 e)
+
+-- also the columns in the place of theirs
+pub stay_fit : (cs ds : List ColumnDef) (values : List (Option TypedValue)) → ColumnsStay cs ds → FitsSoFar cs values → FitsSoFar ds values
+stay_fit [] [] values s h = h
+stay_fit [] (d ∷ ds) [] s h = (s.0, stay_fit [] ds [] s.2 h)
+stay_fit [] (d ∷ ds) (v ∷ vs) s h = absurd h
+stay_fit (c ∷ cs) [] values s h = absurd s
+stay_fit (c ∷ cs) (d ∷ ds) [] s h = (s.2 h.0, stay_fit cs ds [] s.3 h.1)
+stay_fit (c ∷ cs) (d ∷ ds) (None ∷ vs) s h = (s.2 h.0, stay_fit cs ds vs s.3 h.1)
+stay_fit (c ∷ cs) (d ∷ ds) (Some t ∷ vs) s h = (
+  (h.0.0 ∙ sym s.0, h.0.1, subst (λ (ty : SqlType). is_stored t.value ty ≡ true) (sym s.0) h.0.2),
+  stay_fit cs ds vs s.3 h.1,
+)
 
 pub few : (cs : List ColumnDef) (values : List (Option TypedValue)) → FitsSoFar cs values → length values ≤ length cs
 few [] [] h = omega arith

@@ -1,7 +1,8 @@
 -- Each statement's changes are fine, and each statement keeps what is kept.
-use Rattle.std.proofs.Common.{◌≡◌, ◌≢◌, ◌≤◌, ◌<◌, ℕ, ◌+◌, ◌*◌, inl, inr, refl, sym, ap, subst, ◌∙◌, List, [], ◌∷◌, map, length, Ok, Err, arith}
+use Rattle.std.proofs.Common.{◌≡◌, ◌≤◌, ◌<◌, ℕ, ◌+◌, ◌*◌, refl, sym, ap, subst, ◌∙◌, List, [], ◌∷◌, map, length, Ok, Err, arith}
 use Rattle.std.specs.List.{AllByRecursion}
 use Rattle.sql_value.specs.declared.column.ColumnDef.{ColumnDef}
+use Rattle.sql_types.specs.declared.statement.Alter.{Alter}
 use Rattle.sql_types.specs.declared.statement.Stmt.{Stmt}
 use Rattle.sql_types.specs.declared.statement.Stmt.TheVariants as s
 use Rattle.sql_types.specs.declared.statement.CreateTable.{CreateTable}
@@ -10,28 +11,32 @@ use Rattle.sql_types.specs.declared.statement.Select.{Select}
 use Rattle.sql_types.specs.declared.table.TableDef.{TableDef}
 use Rattle.sql_types.specs.declared.table.IndexDef.{IndexDef}
 use Rattle.sql_types.specs.declared.version.Table.{Table}
+use Rattle.sql_types.specs.declared.version.Version.{Version}
 use Rattle.spec_model.specs.Refusals.{Checked}
 use Rattle.spec_model.specs.Lists.{numbered}
 use Rattle.spec_model.specs.Rows.{Row, stored_row}
 use Rattle.spec_model.specs.Keys.{version_key}
-use Rattle.spec_model.specs.Changes.{changed_all}
+use Rattle.spec_model.specs.Changes.{Change, changed_all}
 use Rattle.spec_model.specs.Catalog.{Defs, NamedPart, Tables, defs_of, versions_of, changed_table}
 use Rattle.spec_model.specs.Checks.{row_statement_check}
 use Rattle.spec_model.specs.Query.{query_check}
 use Rattle.spec_model.specs.SystemTables.{tables_id, columns_id, tables_columns, columns_columns, table_row, column_row, column_rows, index_row, index_rows}
 use Rattle.spec_model.specs.Create.{create_check, index_check}
+use Rattle.spec_model.specs.Alter.{Altered, alteration, table_drop}
 use Rattle.spec_model.specs.Effect.{query_rows, table_start, column_starts, index_starts}
-use Rattle.spec_model.specs.ChangeSets.{TableChange, in_table, changed_from, select_change_set, query_change_set, create_table_change_set, create_index_change_set, change_set}
+use Rattle.spec_model.specs.ChangeSets.{TableChange, in_table, changed_from, select_change_set, query_change_set, create_table_change_set, create_index_change_set, altered_change_set, change_set}
 use Rattle.spec_model.specs.Agreement.{IdsFrom}
 use Rattle.law_frame.proofs.ChangeSets.{in_one_table}
 use Rattle.law_journal.specs.Fits.{Fits}
 use Rattle.law_journal.specs.Fine.{key_in, OfTable, AllFine}
 use Rattle.law_journal.specs.Kept.{Kept}
-use Rattle.law_journal.specs.Described.{IsTableKey, IsColumnKey, Described}
+use Rattle.law_journal.specs.Described.{IsTableKey, IsColumnKey, InRange, Described}
+use Rattle.law_journal.proofs.Altered.{of_def, by_alter, by_drop}
+use Rattle.law_journal.proofs.Entering.{starts_of, Enters, with_its_versions, alter_enters, drop_enters}
 use Rattle.law_journal.proofs.Created.{Created, created, Indexed, indexed}
-use Rattle.law_journal.proofs.DefLists.{all_defs, no_items, ListedOnce, is_listed_once}
-use Rattle.law_journal.proofs.Here.{AllHere, starts_fine}
-use Rattle.law_journal.proofs.Lift.{of_weaker, of_all, of_other, lift, fine_append, found_table, change_fine}
+use Rattle.law_journal.proofs.DefLists.{no_items, ListedOnce, is_listed_once}
+use Rattle.law_journal.proofs.Here.{AllHere, AllNew, starts_fine}
+use Rattle.law_journal.proofs.Lift.{of_weaker, of_other, lift, fine_append, found_table, change_fine}
 use Rattle.law_journal.proofs.NumberKeys.{column_key, index_key}
 use Rattle.law_journal.proofs.SystemKeys.{table_row_new, rows_new, column_key_at}
 use Rattle.law_journal.proofs.SystemRows.{IsSmall, table_row_fits, column_row_fits, index_row_fits}
@@ -48,12 +53,13 @@ pub record DescribedBy (ds : Defs) (T : Tables) : Type 0 where
   pub of_tables : OfTable tables_id (TablesAbout ds) T
   pub of_columns : OfTable columns_id (ColumnsAbout ds) T
   pub few : AllByRecursion (λ (def : TableDef). length def.columns ≤ 64) ds
+  pub types : AllByRecursion InRange ds
   pub count : length ds ≤ 34
 
 pub described_by : (ds : Defs) (T : Tables) → defs_of T ≡ ds → DescribedBy ds T → Described T
 described_by ds T e h =
     let k : DescribedBy (defs_of T) T = subst (λ (xs : Defs). DescribedBy xs T) (sym e) h in
-    record { of_tables = k.of_tables; of_columns = k.of_columns; few = k.few; count = k.count }
+    record { of_tables = k.of_tables; of_columns = k.of_columns; few = k.few; types = k.types; count = k.count }
 
 -- ---- rows of a table
 
@@ -112,15 +118,8 @@ module _ (place : ℕ → ℕ) (tx : ℕ) where
       let there : OfTable x.0.id (λ t. (t.def ≡ x.0) × (t.versions ≡ versions_of T x.0.id)) T = subst (λ (d : TableDef). OfTable d.id (λ t. (t.def ≡ d) × (t.versions ≡ versions_of T d.id)) T) i.is f in
       of_weaker x.0.id (λ t. (t.def ≡ x.0) × (t.versions ≡ versions_of T x.0.id)) (λ t. t.def ≡ x.0) T (λ t h. h.0) there
 
-  of_out : (id : ℕ) (P : Table → Type 0) (R : Type 0) (T : Tables) → OfTable id P T → ((t : Table) → P t → R) → R
-  of_out id P R [] o f = absurd o
-  of_out id P R (t ∷ ts) o f = elim o [ inl p ↦ f t p.1 | inr q ↦ of_out id P R ts q f ]
-
   pub few_columns : (T : Tables) (x : TableDef) → Described T → OfTable x.id (λ t. t.def ≡ x) T → length x.columns ≤ 64
-  few_columns T x d o =
-      of_out x.id (λ t. (length t.def.columns ≤ 64) × (t.def ≡ x)) (length x.columns ≤ 64) T
-      (of_all x.id (λ t. length t.def.columns ≤ 64) (λ t. t.def ≡ x) T (all_defs (λ def. length def.columns ≤ 64) T d.few) o)
-      (λ t h. subst (λ (y : TableDef). length y.columns ≤ 64) h.1 h.0)
+  few_columns T x d o = of_def (λ def. length def.columns ≤ 64) T x d.few o
 
   part_rows : (seq : ℕ) (T : Tables) (x : TableDef × IndexDef) → IdsFrom 1 (defs_of T) → Described T → Indexed (defs_of T) x → OfTable columns_id (λ t. AllHere t.def.columns tx seq (index_starts x.0 x.1) t.versions) T
   unfolding index_rows
@@ -138,6 +137,37 @@ module _ (place : ℕ → ℕ) (tx : ℕ) where
   index_fine seq T c (Err e) k d is = tt
   index_fine seq T c (Ok x) k d is = lift tx seq columns_id (index_starts x.0 x.1) T (part_rows seq T x k.sound.ids d (indexed (defs_of T) c x is))
 
+  -- ---- ALTER TABLE and DROP TABLE
+
+  -- rows that are new among a table's versions
+  entered_fine : (seq id : ℕ) (columns : List ColumnDef) (Q : Table → Type 0) (cs : List Change) (rows : List Row) (T : Tables) → IdsFrom 1 (defs_of T) → cs ≡ starts_of columns rows → AllNew columns rows (versions_of T id)
+      → OfTable id (λ t. (t.def.columns ≡ columns) × Q t) T → OfTable id (λ t. AllHere t.def.columns tx seq cs t.versions) T
+  entered_fine seq id columns Q cs rows T ids are new o =
+      let here : AllHere columns tx seq cs (versions_of T id) = subst (λ (xs : List Change). AllHere columns tx seq xs (versions_of T id)) (sym are) (starts_fine columns tx seq rows (versions_of T id) new) in
+      of_weaker id (λ t. ((t.def.columns ≡ columns) × Q t) × (t.versions ≡ versions_of T id)) (λ t. AllHere t.def.columns tx seq cs t.versions) T
+      (λ t h. subst (λ (vs : List Version). AllHere t.def.columns tx seq cs vs) (sym h.1) (subst (λ (ds : List ColumnDef). AllHere ds tx seq cs (versions_of T id)) (sym h.0.0) here))
+      (with_its_versions id (λ t. (t.def.columns ≡ columns) × Q t) T ids o)
+
+  altered_fine : (seq : ℕ) (T : Tables) (m : Checked Altered) → IdsFrom 1 (defs_of T) → Described T → ((a : Altered) → m ≡ Ok a → Enters T a) → AllFine tx seq (altered_change_set m).changes T
+  altered_fine seq T (Err e) ids d f = tt
+  altered_fine seq T (Ok a) ids d f =
+      let g : Enters T a = f a refl in
+      let cs : List TableChange = in_table tables_id a.first in
+      let next : ℕ = seq + length cs in
+      let after : changed_from tx seq cs T ≡ changed_table tables_id (changed_all tx seq a.first) T = in_one_table tx seq tables_id a.first T in
+      fine_append tx seq cs (in_table columns_id a.second) T
+      (lift tx seq tables_id a.first T (entered_fine seq tables_id tables_columns (λ t. AllByRecursion (λ v. IsTableKey (defs_of T) (version_key tables_columns v)) t.versions) a.first g.first_rows T ids g.first_are g.first_new d.of_tables))
+      (lift tx next columns_id a.second (changed_from tx seq cs T)
+      (subst (λ (U : Tables). OfTable columns_id (λ t. AllHere t.def.columns tx next a.second t.versions) U) (sym after)
+      (of_other columns_id tables_id (λ t. AllHere t.def.columns tx next a.second t.versions) (changed_all tx seq a.first) T (λ e. cc)
+      (entered_fine next columns_id columns_columns (λ t. AllByRecursion (λ v. IsColumnKey (defs_of T) (version_key columns_columns v)) t.versions) a.second g.second_rows T ids g.second_are g.second_new d.of_columns))))
+
+  pub altering_enters : (T : Tables) (y : Alter) → IdsFrom 1 (defs_of T) → Described T → (a : Altered) → alteration (defs_of T) (versions_of T tables_id) (versions_of T columns_id) y ≡ Ok a → Enters T a
+  altering_enters T y ids d a e = by_alter (defs_of T) (versions_of T tables_id) (versions_of T columns_id) (Enters T) y a e (alter_enters T ids d y)
+
+  pub dropping_enters : (T : Tables) (name : List ℕ) → IdsFrom 1 (defs_of T) → Described T → (a : Altered) → table_drop (defs_of T) (versions_of T tables_id) (versions_of T columns_id) name ≡ Ok a → Enters T a
+  dropping_enters T name ids d a e = by_drop (defs_of T) (versions_of T tables_id) (versions_of T columns_id) (Enters T) name a e (drop_enters T ids d name)
+
   -- ---- all statements
 
   rows_change_nothing : (seq : ℕ) (T : Tables) (m : Checked (List Row)) → AllFine tx seq (select_change_set m).changes T
@@ -152,8 +182,8 @@ module _ (place : ℕ → ℕ) (tx : ℕ) where
   unfolding change_set
   change_set_fine seq T (s.Create c) k d = table_fine seq T c (create_check (defs_of T) c) k d refl
   change_set_fine seq T (s.Index c) k d = index_fine seq T c (index_check (defs_of T) c) k d refl
-  change_set_fine seq T (s.Alter altered) k d = tt
-  change_set_fine seq T (s.Drop name) k d = tt
+  change_set_fine seq T (s.Alter y) k d = altered_fine seq T (alteration (defs_of T) (versions_of T tables_id) (versions_of T columns_id) y) k.sound.ids d (altering_enters T y k.sound.ids d)
+  change_set_fine seq T (s.Drop name) k d = altered_fine seq T (table_drop (defs_of T) (versions_of T tables_id) (versions_of T columns_id) name) k.sound.ids d (dropping_enters T name k.sound.ids d)
   change_set_fine seq T (s.Change stmt) k d = change_fine place tx seq T stmt (row_statement_check (defs_of T) stmt) k refl
   change_set_fine seq T (s.Select q) k d = query_changes_nothing seq T T q (query_check (defs_of T) q)
   change_set_fine seq T s.Begin k d = tt

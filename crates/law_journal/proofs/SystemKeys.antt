@@ -14,6 +14,7 @@ use Rattle.law_frame.proofs.Alls.{all_inserted}
 use Rattle.law_journal.specs.Fits.{Fits}
 use Rattle.law_journal.specs.Fine.{key_in}
 use Rattle.law_journal.specs.Described.{items_below, IsTableKey, IsColumnKey}
+use Rattle.law_journal.proofs.DefLists.{no_changes}
 use Rattle.law_journal.proofs.NumberKeys.{same_first, table_key}
 use Rattle.law_journal.proofs.Order.{NoneLive, new_version}
 use Rattle.law_journal.proofs.Here.{Differ, AllNew}
@@ -32,7 +33,7 @@ keys_after columns K tx seq (r ∷ rs) V h k =
 none_of_table : (defs : Defs) (id : ℕ) (V : List Version) → length defs < id → AllByRecursion (λ v. IsTableKey defs (version_key tables_columns v)) V → NoneLive tables_columns (number id ∷ number 0 ∷ []) V
 none_of_table defs id [] lt h = tt
 none_of_table defs id (v ∷ vs) lt h =
-    ((λ same. absurd (let k = h.0 in let e = same_first k.0 id (number 0 ∷ []) (number 0 ∷ []) (subst (λ (key : Key). same_key key (number id ∷ number 0 ∷ []) ≡ true) k.2 same) in omega (arith, e.0, k.1, lt))), none_of_table defs id vs lt h.1)
+    ((λ same. absurd (let k = h.0 in let e = same_first k.0 id (number k.1 ∷ []) (number 0 ∷ []) (subst (λ (key : Key). same_key key (number id ∷ number 0 ∷ []) ≡ true) k.4 same) in omega (arith, e.0, k.2, lt))), none_of_table defs id vs lt h.1)
 
 pub table_row_new : (defs : Defs) (def : TableDef) (V : List Version) → length defs < def.id → Fits tables_columns (stored_row tables_columns (table_row def)) → AllByRecursion (λ v. IsTableKey defs (version_key tables_columns v)) V → AllNew tables_columns (table_row def ∷ []) V
 table_row_new defs def V lt fits h = (fits, subst (λ (k : Key). NoneLive tables_columns k V) (sym (table_key def)) (none_of_table defs def.id V lt h), tt, tt)
@@ -52,9 +53,9 @@ module _ (defs : Defs) (id : ℕ) where
   none_of_item item (v ∷ vs) le h = (
     (λ same. absurd (
         let k = h.0 in
-        let e = same_first k.0 id (number k.1 ∷ number 0 ∷ []) (number item ∷ number 0 ∷ []) (subst (λ (key : Key). same_key key (column_key_at id item) ≡ true) k.3 same) in
-        let f = same_first k.1 item (number 0 ∷ []) (number 0 ∷ []) e.1 in
-        let below : k.1 < items_below defs id = subst (λ (i : ℕ). k.1 < items_below defs i) e.0 k.2 in
+        let e = same_first k.0 id (number k.1 ∷ number k.2 ∷ []) (number item ∷ number 0 ∷ []) (subst (λ (key : Key). same_key key (column_key_at id item) ≡ true) k.5 same) in
+        let f = same_first k.1 item (number k.2 ∷ []) (number 0 ∷ []) e.1 in
+        let below : k.1 < items_below defs id = subst (λ (i : ℕ). k.1 < items_below defs i) e.0 k.3 in
         omega (arith, f.0, below, le))),
     none_of_item item vs le h.1,
   )
@@ -75,4 +76,4 @@ module _ (defs : Defs) (id : ℕ) where
 
     pub rows_known : (after : Defs) (n : ℕ) (xs : List A) → base + n + length xs ≤ items_below after id → AllByRecursion (λ r. IsColumnKey after (key_in columns_columns (stored_row columns_columns r))) (map row (numbered n xs))
     rows_known after n [] le = tt
-    rows_known after n (x ∷ xs) le = ((id, base + n, omega (arith, le), key_is (n, x)), rows_known after (n + 1) xs (omega (arith, le)))
+    rows_known after n (x ∷ xs) le = ((id, base + n, 0, omega (arith, le), no_changes id after, key_is (n, x)), rows_known after (n + 1) xs (omega (arith, le)))

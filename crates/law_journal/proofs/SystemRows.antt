@@ -2,7 +2,8 @@
 use Rattle.std.proofs.Common.{◌≡◌, ◌≤◌, ◌<◌, ℕ, ◌+◌, ◌*◌, ◌^◌, refl, Bool, true, false, List, [], length, arith}
 use Rattle.std.proofs.lemmas.Bool.{lt-ltb, le-leb}
 use Rattle.std.proofs.lemmas.Bool.Decides.{nat_tests}
-use Rattle.sql_value.specs.declared.value.Value.TheVariants.{Text}
+use Rattle.std.specs.Prelude.{pos, negsuc, if◌then◌else◌}
+use Rattle.sql_value.specs.declared.value.Value.TheVariants.{Num, Text}
 use Rattle.sql_value.specs.declared.sql_type.SqlType.{SqlType}
 use Rattle.sql_value.specs.declared.sql_type.SqlType.TheVariants as t
 use Rattle.sql_value.specs.declared.column.ColumnDef.{ColumnDef}
@@ -12,8 +13,9 @@ use Rattle.sql_value.specs.Stored.{is_in_range, is_stored}
 use Rattle.sql_value.specs.Text.{utf16_units}
 use Rattle.sql_types.specs.declared.table.TableDef.{TableDef}
 use Rattle.sql_value.specs.TypeCodes.{type_code, first_parameter, second_parameter}
+use Rattle.spec_model.specs.LiveColumns.{is_dropped}
 use Rattle.spec_model.specs.Rows.{number, stored_value, stored_row}
-use Rattle.spec_model.specs.SystemTables.{a_column, name_type, tables_columns, columns_columns, kind_code, history_value, bit, table_row, column_row, index_row}
+use Rattle.spec_model.specs.SystemTables.{a_column, name_type, tables_columns, columns_columns, kind_code, history_value, bit, table_row, column_row, index_row, kind_in_row, changed_table_row, changed_column_row}
 use Rattle.law_journal.specs.Fits.{FitsColumn, Fits}
 use Rattle.law_journal.proofs.Units.{few_units}
 
@@ -144,6 +146,63 @@ index_row_fits id g name n ordinal small item h o = (
             (
               int_fits [] false 0 0 (omega arith),
               (bit_fits [] false 0 0 (omega arith), (int_fits [] false 0 ordinal o, tt)),
+            ),
+          ),
+        ),
+      ),
+    ),
+  ),
+)
+
+-- ---- rows of what was changed
+
+changed_kind_small : (gone : Bool) (kind : TableKind) → IsInt (if gone then kind_code kind + 2 else kind_code kind)
+changed_kind_small true AppendOnly = omega arith
+changed_kind_small true Updatable = omega arith
+changed_kind_small false kind = kind_small kind
+
+pub changed_table_row_fits : (change : ℕ) (def : TableDef) → IsInt def.id → IsInt change → length def.name ≤ 128 → length def.history ≤ 128 → length def.view ≤ 128
+    → Fits tables_columns (stored_row tables_columns (changed_table_row change def))
+unfolding changed_table_row
+changed_table_row_fits change def id few name history view = (
+  int_fits [] false 1 def.id id,
+  (
+    int_fits [] false 2 change few,
+    (
+      text_fits [] false 0 def.name name,
+      (
+        int_fits [] false 0 (kind_in_row def) (changed_kind_small def.gone def.kind),
+        (history_fits [] def.kind def.history history, (text_fits [] false 0 def.view view, tt)),
+      ),
+    ),
+  ),
+)
+
+-- the place in the key, or -1
+place_fits : (name : List ℕ) (b : Bool) (k : ℕ) → IsInt k
+    → FitsColumn (a_column name t.Int false 0) (stored_value (a_column name t.Int false 0) (Num 0 (if b then negsuc 0 else pos k)))
+unfolding is_stored is_in_range
+place_fits name true k h = (refl, (λ e. cc), refl)
+place_fits name false k h = int_fits name false 0 k h
+
+pub changed_column_row_fits : (change : ℕ) (def : TableDef) (n : ℕ) (c : ColumnDef) → IsInt def.id → IsInt n → IsInt change → IsSmall c
+    → Fits columns_columns (stored_row columns_columns (changed_column_row change def (n, c)))
+unfolding changed_column_row
+changed_column_row_fits change def n c small item few h = (
+  int_fits [] false 1 def.id small,
+  (
+    int_fits [] false 2 n item,
+    (
+      int_fits [] false 3 change few,
+      (
+        text_fits [] false 0 c.name h.name,
+        (
+          int_fits [] false 0 (type_code c.ty) (code_small c.ty),
+          (
+            int_fits [] false 0 (first_parameter c.ty) (first_small c.ty h.ty),
+            (
+              int_fits [] false 0 (second_parameter c.ty) (second_small c.ty h.ty),
+              (bit_fits [] false 0 (bit c.nullable) (bit_small c.nullable), (place_fits [] (is_dropped def n) c.key_position h.key, tt)),
             ),
           ),
         ),

@@ -21,7 +21,7 @@ ghost use Rattle.law_journal.specs.Serial.{TablesOf};
 
 /// Each change that a statement makes, over the tables that the changes before it left, is the start of a row
 /// that fits its columns, at a key that no standing row has, or the end of a version that stands: of INSERT,
-/// UPDATE and DELETE, and of the system rows of CREATE TABLE and CREATE INDEX.
+/// UPDATE and DELETE, and of the system rows of CREATE TABLE, CREATE INDEX, ALTER TABLE and DROP TABLE.
 pub fn changes_are_fine()
     ensures { (place : ℕ → ℕ) (T : Tables) (tx seq : ℕ) (stmt : Stmt) → Kept place tx seq T → Described T
         → AllFine tx seq (change_set T stmt).changes T }

@@ -26,7 +26,7 @@ no_cell_requested : (D : Defs) (d : Stmt) → creates d ≡ true → cell_reques
 unfolding cell_requests
 no_cell_requested D (stmt.Create q) e = refl
 no_cell_requested D (stmt.Index q) e = refl
-no_cell_requested D (stmt.Alter altered) e = refl
+no_cell_requested D (stmt.Alter a) e = refl
 no_cell_requested D (stmt.Drop name) e = refl
 no_cell_requested D (stmt.Change row) e = cc
 no_cell_requested D (stmt.Select q) e = cc

@@ -80,7 +80,7 @@ shares_only : (s : Option Stmt) (w : LockRequest) → In w (of_catalog (requests
 shares_only None w i = absurd i
 shares_only (Some (stmt.Create c)) w i = absurd i
 shares_only (Some (stmt.Index c)) w i = absurd i
-shares_only (Some (stmt.Alter altered)) w i = absurd i
+shares_only (Some (stmt.Alter a)) w i = absurd i
 shares_only (Some (stmt.Drop name)) w i = absurd i
 shares_only (Some (stmt.Change row)) w i = ⊎_elim (λ (e : whole S ≡ w). e) (λ (e : ⊥). absurd e) i
 shares_only (Some (stmt.Select q)) w i = ⊎_elim (λ (e : whole S ≡ w). e) (λ (e : ⊥). absurd e) i

@@ -105,8 +105,8 @@ keeps_defs : (tx : ℕ) (T : Tables) (q : Option Stmt) → (creates_it : (stmt :
 keeps_defs tx T None h = refl
 keeps_defs tx T (Some (st.Create c)) h = let z = h (st.Create c) refl in cc
 keeps_defs tx T (Some (st.Index c)) h = let z = h (st.Index c) refl in cc
-keeps_defs tx T (Some (st.Alter altered)) h = refl
-keeps_defs tx T (Some (st.Drop name)) h = refl
+keeps_defs tx T (Some (st.Alter a)) h = let z = h (st.Alter a) refl in cc
+keeps_defs tx T (Some (st.Drop name)) h = let z = h (st.Drop name) refl in cc
 keeps_defs tx T (Some (st.Change row)) h = defs_after T tx 0 (st.Change row) refl
 keeps_defs tx T (Some (st.Select q)) h = defs_after T tx 0 (st.Select q) refl
 keeps_defs tx T (Some st.Begin) h = refl
@@ -119,6 +119,8 @@ keeps_defs tx T (Some st.Image) h = refl
 pub x_of : (stmt : Stmt) → creates stmt ≡ true → catalog_request false stmt ≡ Some X
 x_of (st.Create c) e = refl
 x_of (st.Index c) e = refl
+x_of (st.Alter a) e = refl
+x_of (st.Drop name) e = refl
 x_of stmt e = cc
 
 pub one_text : (v : Server) (tx : ℕ) (T : Tables) (text : Text) → (script v.reads false T tx (text ∷ [])).state ≡ (text_step v.reads false tx (start T) text).0
@@ -148,6 +150,8 @@ pub no_cell : (defs : Defs) (stmt : Stmt) → creates stmt ≡ true → cell_req
 unfolding cell_requests
 no_cell defs (st.Create c) e = refl
 no_cell defs (st.Index c) e = refl
+no_cell defs (st.Alter a) e = refl
+no_cell defs (st.Drop name) e = refl
 no_cell defs stmt e = cc
 
 whole_same : same_item (whole X).item (whole X).item ≡ true

@@ -69,21 +69,13 @@ module _ (q : Meaning) (text : Text) where
     record { plain = refl; in_place = outside q n text (reply.Refused SyntaxError) unread None same refl (record { none_open = never NoTransaction _ (λ f. cc); begun_twice = never AlreadyInTransaction _ (λ f. cc); not_inside = never ForbiddenInTransaction _ (λ f. cc); unread_outside = comes SyntaxError; third_image = tt; begins = tt }) tt },
     ap (λ (z : Kind). facts_outside q z text (reply.Refused SyntaxError) None) same,
   )
-  refused_out_fits n (Some (stmt.Alter altered)) SyntaxError f same = (
-    record { plain = refl; in_place = outside q n text (reply.Refused SyntaxError) unread None same refl (record { none_open = never NoTransaction _ (λ f. cc); begun_twice = never AlreadyInTransaction _ (λ f. cc); not_inside = never ForbiddenInTransaction _ (λ f. cc); unread_outside = comes SyntaxError; third_image = tt; begins = tt }) tt },
-    ap (λ (z : Kind). facts_outside q z text (reply.Refused SyntaxError) None) same,
-  )
-  refused_out_fits n (Some (stmt.Drop name)) SyntaxError f same = (
-    record { plain = refl; in_place = outside q n text (reply.Refused SyntaxError) unread None same refl (record { none_open = never NoTransaction _ (λ f. cc); begun_twice = never AlreadyInTransaction _ (λ f. cc); not_inside = never ForbiddenInTransaction _ (λ f. cc); unread_outside = comes SyntaxError; third_image = tt; begins = tt }) tt },
-    ap (λ (z : Kind). facts_outside q z text (reply.Refused SyntaxError) None) same,
-  )
   refused_out_fits n (Some stmt.Commit) NoTransaction f same = needs_one n commit same refl (record { none_open = comes NoTransaction; begun_twice = never AlreadyInTransaction _ (λ f. cc); not_inside = never ForbiddenInTransaction _ (λ f. cc); unread_outside = never SyntaxError _ (λ f. cc); third_image = tt; begins = tt }) tt refl
   refused_out_fits n (Some (stmt.Save name)) NoTransaction f same = needs_one n to_savepoint same refl (record { none_open = comes NoTransaction; begun_twice = never AlreadyInTransaction _ (λ f. cc); not_inside = never ForbiddenInTransaction _ (λ f. cc); unread_outside = never SyntaxError _ (λ f. cc); third_image = tt; begins = tt }) tt refl
   refused_out_fits n (Some (stmt.Rollback None)) NoTransaction f same = needs_one n roll_back same refl (record { none_open = comes NoTransaction; begun_twice = never AlreadyInTransaction _ (λ f. cc); not_inside = never ForbiddenInTransaction _ (λ f. cc); unread_outside = never SyntaxError _ (λ f. cc); third_image = tt; begins = tt }) tt refl
   refused_out_fits n (Some (stmt.Rollback (Some name))) NoTransaction f same = needs_one n to_savepoint same refl (record { none_open = comes NoTransaction; begun_twice = never AlreadyInTransaction _ (λ f. cc); not_inside = never ForbiddenInTransaction _ (λ f. cc); unread_outside = never SyntaxError _ (λ f. cc); third_image = tt; begins = tt }) tt refl
   refused_out_fits n (Some stmt.Image) e f same = third n e (n == 2) refl f same
   refused_out_fits n None e f same = cc
-  refused_out_fits n (Some (stmt.Alter altered)) e f same = cc
+  refused_out_fits n (Some (stmt.Alter a)) e f same = cc
   refused_out_fits n (Some (stmt.Drop name)) e f same = cc
   refused_out_fits n (Some stmt.Commit) e f same = cc
   refused_out_fits n (Some (stmt.Save name)) e f same = cc

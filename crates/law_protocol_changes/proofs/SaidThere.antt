@@ -49,7 +49,7 @@ bare_after false text r = tt
 -- a statement of rows makes no index
 pub rows_replied : (T : Tables) (q : Option Stmt) → kind_of q ≡ rows → IsRepliedTo T q
 rows_replied T (Some (stmt.Index c)) e = cc
-rows_replied T (Some (stmt.Alter altered)) e = tt
+rows_replied T (Some (stmt.Alter a)) e = tt
 rows_replied T (Some (stmt.Drop name)) e = tt
 rows_replied T (Some (stmt.Create c)) e = tt
 rows_replied T (Some (stmt.Change r)) e = tt
@@ -66,7 +66,7 @@ rows_replied T None e = tt
 pub same_replied : (T U : Tables) → defs_of U ≡ defs_of T → (q : Option Stmt) → IsRepliedTo T q → IsRepliedTo U q
 unfolding change_set
 same_replied T U e (Some (stmt.Index c)) h = ap (λ (ds : Defs). (create_index_change_set (index_check ds c)).definition) e ∙ h
-same_replied T U e (Some (stmt.Alter altered)) h = tt
+same_replied T U e (Some (stmt.Alter a)) h = tt
 same_replied T U e (Some (stmt.Drop name)) h = tt
 same_replied T U e (Some (stmt.Create c)) h = tt
 same_replied T U e (Some (stmt.Change r)) h = tt

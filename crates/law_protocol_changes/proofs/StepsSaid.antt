@@ -56,7 +56,7 @@ unfolding cell_requests
 refused_requests defs None e f = (refl, refl)
 refused_requests defs (Some (stmt.Create c)) e f = (refl, refl)
 refused_requests defs (Some (stmt.Index c)) e f = (refl, refl)
-refused_requests defs (Some (stmt.Alter altered)) e f = (refl, refl)
+refused_requests defs (Some (stmt.Alter a)) e f = (refl, refl)
 refused_requests defs (Some (stmt.Drop name)) e f = (refl, refl)
 refused_requests defs (Some stmt.Begin) e f = (refl, refl)
 refused_requests defs (Some stmt.Digest) e f = (refl, refl)

@@ -40,8 +40,8 @@ one_none : (T : Tables) (tx : ℕ) (o : Option Stmt) → (text_requests (defs_of
 one_none T tx None e = refl
 one_none T tx (Some (s.Create c)) e = cc
 one_none T tx (Some (s.Index c)) e = cc
-one_none T tx (Some (s.Alter altered)) e = refl
-one_none T tx (Some (s.Drop name)) e = refl
+one_none T tx (Some (s.Alter a)) e = cc
+one_none T tx (Some (s.Drop name)) e = cc
 one_none T tx (Some (s.Change x)) e = cc
 one_none T tx (Some (s.Select q)) e = cc
 one_none T tx (Some s.Begin) e = refl

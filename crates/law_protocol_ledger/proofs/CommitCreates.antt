@@ -421,7 +421,7 @@ module _ (v : Server) (cells : List Cell) (seats : List SeatState) {history : Hi
   }
 
   tables_then : (i : ℕ) (cell : TableCell) → c.table i ≡ some cell → StandsAs v c m after cell (def_at (defs_of m.tables) cell.id)
-  tables_then i cell at = by (made_by T p.stmt creating)
+  tables_then i cell at = by (made_by T p.stmt creating (v.steady p.text p.stmt p.is))
     where
       was : StandsAs v c k seats cell (def_at (defs_of T) cell.id)
       was = st.tables_are_serial.tables i cell at

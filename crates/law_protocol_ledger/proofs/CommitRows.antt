@@ -84,6 +84,8 @@ module _ (v : Server) (cells : List Cell) (seats : List SeatState) {history : Hi
       by_stmt : (d : Stmt) → creates d ≡ true → Each (Holds (c.holds catalog_at) u.id) (requests_at catalog_at (requests_of (defs_of T) false d)) → ⊥
       by_stmt (s.Create d) e g = alone (of_cell catalog_at (cell_requests (defs_of T) (s.Create d))) g
       by_stmt (s.Index d) e g = alone (of_cell catalog_at (cell_requests (defs_of T) (s.Index d))) g
+      by_stmt (s.Alter a) e g = alone (of_cell catalog_at (cell_requests (defs_of T) (s.Alter a))) g
+      by_stmt (s.Drop name) e g = alone (of_cell catalog_at (cell_requests (defs_of T) (s.Drop name))) g
       by_stmt d e g = cc
 
       by_request : (b : Bool) → creates stmt ≡ b → Each (Holds (c.holds catalog_at) u.id) (requests_at catalog_at (requests_of (defs_of T) false stmt)) → creates stmt ≡ false

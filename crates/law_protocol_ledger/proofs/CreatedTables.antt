@@ -1,7 +1,7 @@
 -- The tables after a CREATE: the definitions are those of its plan, and the versions of the tables of users stay.
 use Rattle.spec_protocol.specs.LocksCover.{IsRepliedTo}
 use Rattle.sql_types.specs.declared.statement.Stmt.TheVariants as st
-use Rattle.spec_model.specs.ChangeSets.{Definition, as_before, new, in_place, change_set, defined, changed_from, create_index_change_set, create_table_change_set}
+use Rattle.spec_model.specs.ChangeSets.{Definition, altered, altered_change_set, as_before, new, in_place, change_set, defined, changed_from, create_index_change_set, create_table_change_set}
 use Rattle.std.proofs.Common.{Bool, Err, None, Ok, Option, Some, [], ap, false, refl, sym, true, ℕ, ◌++◌, ◌∙◌, ◌∷◌, ◌≡◌, ◌≢◌}
 use Rattle.spec_model.specs.Refusals.{Checked}
 use Rattle.spec_model.specs.Catalog.{Defs, Tables, defs_of, versions_of}
@@ -13,13 +13,16 @@ use Rattle.sql_types.specs.declared.table.TableDef.{TableDef}
 use Rattle.spec_history.specs.Lists.{Text}
 use Rattle.spec_protocol.specs.Cells.{catalog_at, cell_of}
 use Rattle.spec_model.specs.Locks.{catalog_request, cell_requests}
+use Rattle.law_protocol_steps.proofs.DefsAfter.{altered_not}
 use Rattle.law_protocol_steps.proofs.NewLine.{changed_else}
 use Rattle.law_frame.proofs.Definitions.{changes_keep_defs}
+use Rattle.spec_model.specs.Alter.{Altered, alteration, table_drop}
 use Rattle.spec_model.specs.Create.{create_check, index_check, with_index}
 use Rattle.law_journal.proofs.Created.{created}
-use Rattle.spec_model.specs.Reach.{creates}
+use Rattle.spec_model.specs.Reach.{alters, creates}
+use Rattle.spec_model.specs.SystemTables.{columns_id, tables_id}
 use Rattle.law_journal.proofs.DefLists.{defs_append, defs_redefined, redef}
-use Rattle.spec_model.specs.Effect.{effect, index_effect, table_effect}
+use Rattle.spec_model.specs.Effect.{altered_effect, effect, index_effect, table_effect}
 use Rattle.law_frame.proofs.AtTable.{new_table, redefined_table}
 use Rattle.law_protocol_changes.proofs.CreateVisits.{not_columns, not_tables}
 use Rattle.law_protocol_changes.proofs.Creating.{one_text, step_is}
@@ -32,6 +35,7 @@ same_defined : (d : Definition) (U T : Tables) → defs_of U ≡ defs_of T → d
 same_defined as_before U T e = e
 same_defined (new def) U T e = defs_append U (record { def = def; versions = [] }) ∙ ap (λ (ds : Defs). ds ++ def ∷ []) e ∙ sym (defs_append T (record { def = def; versions = [] }))
 same_defined (in_place def) U T e = defs_redefined def U ∙ ap (redef def) e ∙ sym (defs_redefined def T)
+same_defined (altered def) U T e = defs_redefined def U ∙ ap (redef def) e ∙ sym (defs_redefined def T)
 
 pub effect_defs : (T : Tables) (tx seq : ℕ) (stmt : Stmt) → defs_of (effect T tx seq stmt).tables ≡ defs_of (defined (change_set T stmt).definition T)
 effect_defs T tx seq stmt = ap (λ e. defs_of e.tables) (carries_change_set_out T tx seq stmt) ∙ same_defined (change_set T stmt).definition (changed_from tx seq (change_set T stmt).changes T) T (changes_keep_defs tx seq (change_set T stmt).changes T)
@@ -44,15 +48,23 @@ index_users : (T : Tables) (tx seq : ℕ) (m : Checked (TableDef × IndexDef)) (
 index_users T tx seq (Ok x) id ne = redefined_table (with_index x.0 x.1) id _ ∙ changed_else 2 id _ _ (not_columns id ne) ∙ changed_else 1 id _ T (not_tables id ne)
 index_users T tx seq (Err r) id ne = refl
 
+altered_users : (T : Tables) (tx seq : ℕ) (m : Checked Altered) (id : ℕ) → cell_of id ≢ catalog_at → versions_of (altered_effect T tx seq m).tables id ≡ versions_of T id
+altered_users T tx seq (Ok a) id ne = redefined_table a.def id _ ∙ changed_else 2 id _ _ (not_columns id ne) ∙ changed_else 1 id _ T (not_tables id ne)
+altered_users T tx seq (Err r) id ne = refl
+
 pub users_stay : (T : Tables) (tx seq : ℕ) (stmt : Stmt) → creates stmt ≡ true → (id : ℕ) → cell_of id ≢ catalog_at → versions_of (effect T tx seq stmt).tables id ≡ versions_of T id
 unfolding effect
 users_stay T tx seq (st.Create c) e id ne = table_users T tx seq (create_check (defs_of T) c) id ne
 users_stay T tx seq (st.Index c) e id ne = index_users T tx seq (index_check (defs_of T) c) id ne
+users_stay T tx seq (st.Alter a) e id ne = altered_users T tx seq (alteration (defs_of T) (versions_of T tables_id) (versions_of T columns_id) a) id ne
+users_stay T tx seq (st.Drop name) e id ne = altered_users T tx seq (table_drop (defs_of T) (versions_of T tables_id) (versions_of T columns_id) name) id ne
 users_stay T tx seq stmt e id ne = cc
 
 by_created : (tx : ℕ) (T : Tables) (stmt : Stmt) → creates stmt ≡ true → (by_statement false tx (start T) (Some stmt)).0.tables ≡ (effect T tx 0 stmt).tables
 by_created tx T (st.Create c) e = refl
 by_created tx T (st.Index c) e = refl
+by_created tx T (st.Alter a) e = refl
+by_created tx T (st.Drop name) e = refl
 by_created tx T stmt e = cc
 
 -- a script that is this statement alone leaves them
@@ -66,19 +78,21 @@ pub data Makes (T : Tables) (stmt : Stmt) : Type 0 where
   makes_table : (def : TableDef) → def.indexes ≡ [] → (change_set T stmt).definition ≡ new def → Makes T stmt
   makes_index : (def : TableDef) → (change_set T stmt).definition ≡ in_place def → Makes T stmt
 
-pub made_by : (T : Tables) (stmt : Stmt) → creates stmt ≡ true → Makes T stmt
+pub made_by : (T : Tables) (stmt : Stmt) → creates stmt ≡ true → alters stmt ≡ false → Makes T stmt
 unfolding change_set
-made_by T (st.Create c) e = by (create_check (defs_of T) c) refl
+made_by T (st.Create c) e steady = by (create_check (defs_of T) c) refl
   where
     by : (m : Checked TableDef) → create_check (defs_of T) c ≡ m → Makes T (st.Create c)
     by (Ok def) f = makes_table def (created (defs_of T) c def f).indexes (ap (λ m. (create_table_change_set m).definition) f)
     by (Err r) f = makes_none (ap (λ m. (create_table_change_set m).definition) f)
-made_by T (st.Index c) e = by (index_check (defs_of T) c) refl
+made_by T (st.Index c) e steady = by (index_check (defs_of T) c) refl
   where
     by : (m : Checked (TableDef × IndexDef)) → index_check (defs_of T) c ≡ m → Makes T (st.Index c)
     by (Ok x) f = makes_index (with_index x.0 x.1) (ap (λ m. (create_index_change_set m).definition) f)
     by (Err r) f = makes_none (ap (λ m. (create_index_change_set m).definition) f)
-made_by T stmt e = cc
+made_by T (st.Alter a) e steady = cc
+made_by T (st.Drop name) e steady = cc
+made_by T stmt e steady = cc
 
 -- ---- what wants nothing in the catalog wants nothing
 
@@ -90,7 +104,7 @@ no_request : (defs : Defs) (o : Bool) (stmt : Stmt) → catalog_request o stmt �
 unfolding cell_requests
 no_request defs o (st.Create c) e = refl
 no_request defs o (st.Index c) e = refl
-no_request defs o (st.Alter altered) e = refl
+no_request defs o (st.Alter a) e = refl
 no_request defs o (st.Drop name) e = refl
 no_request defs true (st.Change row) e = cc
 no_request defs false (st.Change row) e = cc
@@ -116,4 +130,6 @@ index_later T (st.Create c) def e g h = by (create_check (defs_of T) c) h
     by : (m : Checked TableDef) → (create_table_change_set m).definition ≡ in_place def → ⊥
     by (Ok d) f = let z : new d ≡ in_place def = f in cc
     by (Err r) f = let z : as_before ≡ in_place def = f in cc
+index_later T (st.Alter a) def e g h = altered_not (alteration (defs_of T) (versions_of T tables_id) (versions_of T columns_id) a) def h
+index_later T (st.Drop name) def e g h = altered_not (table_drop (defs_of T) (versions_of T tables_id) (versions_of T columns_id) name) def h
 index_later T stmt def e g h = cc

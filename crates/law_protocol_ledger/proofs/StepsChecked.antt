@@ -124,7 +124,7 @@ refused_so T (stmt.Select q) named r h is = let n : q.table ≡ h.0 = cc in let 
     (query_refused (defs_of T) q r (sym (same_query_check (defs_of T) (defs_got named) q (one_found q.table named (defs_of T) (sym f) ∙ f)) ∙ is_error (query_check (defs_got named) q) r is), refl)
 refused_so T (stmt.Create c) named r h is = cc
 refused_so T (stmt.Index c) named r h is = cc
-refused_so T (stmt.Alter altered) named r h is = cc
+refused_so T (stmt.Alter a) named r h is = cc
 refused_so T (stmt.Drop name) named r h is = cc
 refused_so T stmt.Begin named r h is = cc
 refused_so T stmt.Commit named r h is = cc

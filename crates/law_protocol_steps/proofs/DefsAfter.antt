@@ -9,10 +9,12 @@ use Rattle.sql_types.specs.declared.table.Part.{Part}
 use Rattle.sql_types.specs.declared.table.TableDef.{TableDef}
 use Rattle.sql_types.specs.declared.table.IndexDef.{IndexDef}
 use Rattle.spec_model.specs.Refusals.{Checked}
-use Rattle.spec_model.specs.Catalog.{Defs, NamedPart, Tables, defs_of, part_named, or_in, find_part}
+use Rattle.spec_model.specs.Catalog.{Defs, NamedPart, Tables, defs_of, versions_of, part_named, or_in, find_part}
 use Rattle.spec_model.specs.Create.{create_check, index_check, with_index}
+use Rattle.spec_model.specs.SystemTables.{tables_id, columns_id}
 use Rattle.spec_model.specs.Agreement.{IdsFrom, columns_at}
-use Rattle.spec_model.specs.ChangeSets.{Definition, as_before, new, in_place, defined, create_table_change_set, create_index_change_set, change_set}
+use Rattle.spec_model.specs.Alter.{Altered, alteration, table_drop}
+use Rattle.spec_model.specs.ChangeSets.{Definition, as_before, new, in_place, altered, defined, create_table_change_set, create_index_change_set, altered_change_set, change_set}
 use Rattle.spec_model.specs.Reach.{creates}
 use Rattle.law_frame.proofs.Definitions.{change_set_keeps}
 use Rattle.spec_protocol.proofs.Created.{indexed}
@@ -118,6 +120,10 @@ table_not : (m : Checked TableDef) (def : TableDef) → (create_table_change_set
 table_not (Ok d) def e = let z : new d ≡ in_place def = e in cc
 table_not (Err r) def e = let z : as_before ≡ in_place def = e in cc
 
+pub altered_not : (m : Checked Altered) (def : TableDef) → (altered_change_set m).definition ≡ in_place def → ⊥
+altered_not (Ok a) def e = let z : altered a.def ≡ in_place def = e in cc
+altered_not (Err r) def e = let z : as_before ≡ in_place def = e in cc
+
 pub index_made : (T : Tables) (stmt : Stmt) (def : TableDef) → IdsFrom 1 (defs_of T) → (change_set T stmt).definition ≡ in_place def → IndexMade T stmt def
 unfolding change_set
 index_made T stmt def ids e = by stmt e (creates stmt) refl
@@ -128,5 +134,7 @@ index_made T stmt def ids e = by stmt e (creates stmt) refl
     by : (q : Stmt) → (change_set T q).definition ≡ in_place def → (b : Bool) → creates q ≡ b → IndexMade T q def
     by (st.Index c) f b k = in_place_of T c (index_check (defs_of T) c) def ids refl f f
     by (st.Create c) f b k = absurd (table_not (create_check (defs_of T) c) def f)
+    by (st.Alter a) f b k = absurd (altered_not (alteration (defs_of T) (versions_of T tables_id) (versions_of T columns_id) a) def f)
+    by (st.Drop name) f b k = absurd (altered_not (table_drop (defs_of T) (versions_of T tables_id) (versions_of T columns_id) name) def f)
     by q f false k = absurd (not_so q f k)
     by q f true k = cc

@@ -82,8 +82,12 @@ put_keeps i k is h = by (list_any (λ n. n == i) is)
 shares_not : (o : Bool) (stmt : Stmt) → catalog_request o stmt ≡ Some mode.S → creates stmt ≡ true → ⊥
 shares_not true (st.Create q) e k = cc
 shares_not true (st.Index q) e k = cc
+shares_not true (st.Alter a) e k = cc
+shares_not true (st.Drop name) e k = cc
 shares_not false (st.Create q) e k = cc
 shares_not false (st.Index q) e k = cc
+shares_not false (st.Alter a) e k = cc
+shares_not false (st.Drop name) e k = cc
 shares_not o stmt e k = cc
 
 s_against_x : requests_conflict (whole mode.S) (whole mode.X) ≡ true

@@ -93,8 +93,8 @@ module _ (reads : Reading) (T : Tables) (tx : ℕ) (sound : Sound tx 0 T) where
     alone_left : (stmt : Stmt) → reaches id key (requests_of (defs_of T) false stmt) ≡ false → Left (alone tx (start T) stmt).0.tables
     alone_left (s.Create c) h = left_key tx 0 T id sound key (s.Create c) h
     alone_left (s.Index c) h = left_key tx 0 T id sound key (s.Index c) h
-    alone_left (s.Alter altered) h = refl
-    alone_left (s.Drop name) h = refl
+    alone_left (s.Alter a) h = left_key tx 0 T id sound key (s.Alter a) h
+    alone_left (s.Drop name) h = left_key tx 0 T id sound key (s.Drop name) h
     alone_left (s.Change x) h = left_key tx 0 T id sound key (s.Change x) h
     alone_left (s.Select q) h = left_key tx 0 T id sound key (s.Select q) h
     alone_left s.Begin h = refl

@@ -30,7 +30,7 @@ pub step_refused : (tx : ℕ) (x : State) (o : Option Stmt) (e : Refusal) → re
 step_refused tx x None e f = cc
 step_refused tx x (Some (stmt.Create c)) e f = cc
 step_refused tx x (Some (stmt.Index c)) e f = cc
-step_refused tx x (Some (stmt.Alter altered)) e f = cc
+step_refused tx x (Some (stmt.Alter a)) e f = cc
 step_refused tx x (Some (stmt.Drop name)) e f = cc
 step_refused tx x (Some stmt.Begin) e f = cc
 step_refused tx x (Some stmt.Digest) e f = cc

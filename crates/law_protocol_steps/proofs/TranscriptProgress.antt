@@ -53,8 +53,8 @@ not_back keep e a = absurd a
 pub runs_own : (st : Stmt) → runs false st ≡ true → EndsOwn (kind_of (Some st)) unfixed
 runs_own (stmt.Create c) e = tt
 runs_own (stmt.Index c) e = tt
-runs_own (stmt.Alter altered) e = cc
-runs_own (stmt.Drop name) e = cc
+runs_own (stmt.Alter a) e = tt
+runs_own (stmt.Drop name) e = tt
 runs_own (stmt.Change c) e = tt
 runs_own (stmt.Select c) e = tt
 runs_own stmt.Begin e = cc
@@ -261,15 +261,15 @@ module _ (q : Meaning) where
 
       by_text : (o : Option Stmt) (e : Refusal) → refused_inside o ≡ Some e → kind_of (q.reads text) ≡ kind_of o → FitsOpened q n text id unfixed (reply.Refused e) × (facts_inside q (kind_of (q.reads text)) text (reply.Refused e) None ≡ said (text, q.writes (reply.Refused e)) ∷ [])
       by_text None SyntaxError f same = (fits_as unread SyntaxError same refl (inside_by n id unread (reply.Refused SyntaxError) (never NoTransaction _ (λ f. cc)) (never AlreadyInTransaction _ (λ f. cc)) (never ForbiddenInTransaction _ (λ f. cc)) tt) tt, ap (λ (k : Kind). facts_inside q k text (reply.Refused SyntaxError) None) same)
-      by_text (Some (stmt.Alter altered)) SyntaxError f same = (fits_as unread SyntaxError same refl (inside_by n id unread (reply.Refused SyntaxError) (never NoTransaction _ (λ f. cc)) (never AlreadyInTransaction _ (λ f. cc)) (never ForbiddenInTransaction _ (λ f. cc)) tt) tt, ap (λ (k : Kind). facts_inside q k text (reply.Refused SyntaxError) None) same)
-      by_text (Some (stmt.Drop name)) SyntaxError f same = (fits_as unread SyntaxError same refl (inside_by n id unread (reply.Refused SyntaxError) (never NoTransaction _ (λ f. cc)) (never AlreadyInTransaction _ (λ f. cc)) (never ForbiddenInTransaction _ (λ f. cc)) tt) tt, ap (λ (k : Kind). facts_inside q k text (reply.Refused SyntaxError) None) same)
       by_text (Some (stmt.Create c)) ForbiddenInTransaction f same = (fits_as create ForbiddenInTransaction same refl (inside_by n id create (reply.Refused ForbiddenInTransaction) (never NoTransaction _ (λ f. cc)) (never AlreadyInTransaction _ (λ f. cc)) (comes ForbiddenInTransaction) tt) tt, ap (λ (k : Kind). facts_inside q k text (reply.Refused ForbiddenInTransaction) None) same)
       by_text (Some (stmt.Index c)) ForbiddenInTransaction f same = (fits_as create ForbiddenInTransaction same refl (inside_by n id create (reply.Refused ForbiddenInTransaction) (never NoTransaction _ (λ f. cc)) (never AlreadyInTransaction _ (λ f. cc)) (comes ForbiddenInTransaction) tt) tt, ap (λ (k : Kind). facts_inside q k text (reply.Refused ForbiddenInTransaction) None) same)
+      by_text (Some (stmt.Alter a)) ForbiddenInTransaction f same = (fits_as create ForbiddenInTransaction same refl (inside_by n id create (reply.Refused ForbiddenInTransaction) (never NoTransaction _ (λ f. cc)) (never AlreadyInTransaction _ (λ f. cc)) (comes ForbiddenInTransaction) tt) tt, ap (λ (k : Kind). facts_inside q k text (reply.Refused ForbiddenInTransaction) None) same)
+      by_text (Some (stmt.Drop name)) ForbiddenInTransaction f same = (fits_as create ForbiddenInTransaction same refl (inside_by n id create (reply.Refused ForbiddenInTransaction) (never NoTransaction _ (λ f. cc)) (never AlreadyInTransaction _ (λ f. cc)) (comes ForbiddenInTransaction) tt) tt, ap (λ (k : Kind). facts_inside q k text (reply.Refused ForbiddenInTransaction) None) same)
       by_text (Some stmt.Begin) AlreadyInTransaction f same = (fits_as begin AlreadyInTransaction same refl (inside_by n id begin (reply.Refused AlreadyInTransaction) (never NoTransaction _ (λ f. cc)) (comes AlreadyInTransaction) (never ForbiddenInTransaction _ (λ f. cc)) tt) tt, ap (λ (k : Kind). facts_inside q k text (reply.Refused AlreadyInTransaction) None) same)
       by_text (Some stmt.Digest) ForbiddenInTransaction f same = (fits_as issue ForbiddenInTransaction same refl (inside_by n id issue (reply.Refused ForbiddenInTransaction) (never NoTransaction _ (λ f. cc)) (never AlreadyInTransaction _ (λ f. cc)) (comes ForbiddenInTransaction) tt) tt, ap (λ (k : Kind). facts_inside q k text (reply.Refused ForbiddenInTransaction) None) same)
       by_text (Some stmt.Image) ForbiddenInTransaction f same = (fits_as keep ForbiddenInTransaction same refl (inside_by n id keep (reply.Refused ForbiddenInTransaction) (never NoTransaction _ (λ f. cc)) (never AlreadyInTransaction _ (λ f. cc)) (comes ForbiddenInTransaction) (never LimitExceeded _ (λ f. cc))) tt, ap (λ (k : Kind). facts_inside q k text (reply.Refused ForbiddenInTransaction) None) same)
       by_text None e f same = cc
-      by_text (Some (stmt.Alter altered)) e f same = cc
+      by_text (Some (stmt.Alter a)) e f same = cc
       by_text (Some (stmt.Drop name)) e f same = cc
       by_text (Some (stmt.Create c)) e f same = cc
       by_text (Some (stmt.Index c)) e f same = cc
@@ -288,8 +288,8 @@ shares_rows true (stmt.Create c) e = cc
 shares_rows true (stmt.Index c) e = cc
 shares_rows false (stmt.Create c) e = cc
 shares_rows false (stmt.Index c) e = cc
-shares_rows true (stmt.Alter altered) e = cc
-shares_rows false (stmt.Alter altered) e = cc
+shares_rows true (stmt.Alter a) e = cc
+shares_rows false (stmt.Alter a) e = cc
 shares_rows true (stmt.Drop name) e = cc
 shares_rows false (stmt.Drop name) e = cc
 shares_rows explicit (stmt.Change x) e = refl

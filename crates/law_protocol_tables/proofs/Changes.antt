@@ -21,6 +21,7 @@ use Rattle.spec_model.specs.Checks.{table_of, row_statement_check}
 use Rattle.spec_model.specs.Lists.{all_some}
 use Rattle.spec_model.specs.Where.{key_fixed}
 use Rattle.spec_model.specs.Journals.{serial}
+use Rattle.spec_model.specs.Changes.{written_names}
 use Rattle.spec_model.specs.Locks.{whole, by_keys, by_key_or_whole, catalog_request, cell_requests, key_inserted, row_requests, row_cell_requests, requests_conflict}
 use Rattle.spec_model.specs.Agreement.{columns_at}
 use Rattle.spec_model.specs.ScriptRequests.{text_requests}
@@ -82,7 +83,7 @@ key_announced None w i = (whole X, inl refl, refl, inr refl)
 
 pub rows_announced : (def : TableDef) (row : RowStmt) → Announces (row_requests def row)
 unfolding row_requests
-rows_announced def (Insert table names rows) = keys_announced (all_some (map (key_inserted def.columns names) rows))
+rows_announced def (Insert table names rows) = keys_announced (all_some (map (key_inserted def.columns (written_names def names)) rows))
 rows_announced def (Update table sets cond) = key_announced (key_fixed def.columns cond)
 rows_announced def (Delete table cond) = key_announced (key_fixed def.columns cond)
 

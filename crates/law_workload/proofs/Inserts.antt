@@ -44,7 +44,7 @@ unfolding inserted_rows arranged
 one_inserted V row value few also free = rw (row_kept row value few also, not_there V row value free) refl
 
 -- one start
-pub insert_changes : (def : TableDef) (table : ℕ) (V : List Version) (row value : ℕ) → def.columns ≡ columns → row < 2 ^ 31 → value < 2 ^ 63 → has_live_row columns (number row ∷ []) V ≡ false
+pub insert_changes : (def : TableDef) (table : ℕ) (V : List Version) (row value : ℕ) → def.columns ≡ columns → def.dropped ≡ [] → row < 2 ^ 31 → value < 2 ^ 63 → has_live_row columns (number row ∷ []) V ≡ false
     → row_changes def V (new_row table row value) ≡ Ok (Starts (stored_row columns (row_with row value)) ∷ [], 1)
 unfolding row_changes
-insert_changes def table V row value are few also free = rw (are, one_inserted V row value few also free) refl
+insert_changes def table V row value are none few also free = rw (are, none, one_inserted V row value few also free) refl

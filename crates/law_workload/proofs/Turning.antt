@@ -64,6 +64,10 @@ same_columns : (table : ℕ) → (def_of table).columns ≡ columns
 unfolding table_def
 same_columns table = refl
 
+none_dropped : (table : ℕ) → (def_of table).dropped ≡ []
+unfolding table_def
+none_dropped table = refl
+
 -- ---- how many transactions there are
 
 pub as_many : {s a b c d : List (List ℕ)} {is : List JournalItem} → Turns s a b c d is → tx_count is ≡ length s + length a + length b + length c + length d
@@ -132,7 +136,7 @@ module _ (reads : Reading) (known : ReadsTexts reads) (n : ℕ) (few : n ≤ 100
         made = (Starts (stored_row columns (row_with row value)) ∷ [], 1);
         is_read = known.insert table row some four (omega (arith, less, few));
         passes = insert_passes table some four row value;
-        makes = insert_changes (def_of table) table V row value (same_columns table) (omega (arith, less, few)) (omega arith) (none_is_live row V h.below);
+        makes = insert_changes (def_of table) table V row value (same_columns table) (none_dropped table) (omega (arith, less, few)) (omega arith) (none_is_live row V h.below);
         later = behind _ (after_insert table k tx V other h new);
       }
 

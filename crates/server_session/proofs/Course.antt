@@ -201,8 +201,8 @@ few_images images few free = omega (arith, few, other)
 stage_outside_is : (st : Stmt) (images : ℕ) → images ≤ 2 → refused_outside images (Some st) ≡ None → IsStage (stage_outside st) (Some st) None images
 stage_outside_is (stmt.Create c) images few free = (refl, refl)
 stage_outside_is (stmt.Index c) images few free = (refl, refl)
-stage_outside_is (stmt.Alter altered) images few free = absurd cc
-stage_outside_is (stmt.Drop name) images few free = absurd cc
+stage_outside_is (stmt.Alter a) images few free = (refl, refl)
+stage_outside_is (stmt.Drop name) images few free = (refl, refl)
 stage_outside_is (stmt.Change c) images few free = (refl, refl)
 stage_outside_is (stmt.Select c) images few free = (refl, refl)
 stage_outside_is stmt.Begin images few free = (refl, refl)
@@ -215,7 +215,7 @@ stage_outside_is stmt.Image images few free = (refl, refl, few_images images few
 outside_begun : (st : Stmt) (left : List ℕ) → stage_seen (stage_outside st) left ≡ law.begun
 outside_begun (stmt.Create c) left = refl
 outside_begun (stmt.Index c) left = refl
-outside_begun (stmt.Alter altered) left = refl
+outside_begun (stmt.Alter a) left = refl
 outside_begun (stmt.Drop name) left = refl
 outside_begun (stmt.Change c) left = refl
 outside_begun (stmt.Select c) left = refl
@@ -250,7 +250,7 @@ stage_inside_is : (st : Stmt) (o : OpenTransaction) (images : ℕ) → IsPlainCo
     → IsStage (stage_inside st) (Some st) (Some o) images
 stage_inside_is (stmt.Create c) o images plain goes free = absurd cc
 stage_inside_is (stmt.Index c) o images plain goes free = absurd cc
-stage_inside_is (stmt.Alter altered) o images plain goes free = absurd cc
+stage_inside_is (stmt.Alter a) o images plain goes free = absurd cc
 stage_inside_is (stmt.Drop name) o images plain goes free = absurd cc
 stage_inside_is (stmt.Change c) o images plain goes free = looks (stmt.Change c) o goes (changes_run c)
 stage_inside_is (stmt.Select q) o images plain goes free = looks (stmt.Select q) o goes (selects_run q)
@@ -271,7 +271,7 @@ record IsPlainStage {H : Type 0} (stage : Stage) (r : Running H) (text : Text) :
 inside_plain : {H : Type 0} (st : Stmt) (r : Running H) (text : Text) → IsPlainStage (stage_inside st) r text
 inside_plain (stmt.Create c) r text = record { begun = λ left. refl; unsaid = refl; room = λ k m. k }
 inside_plain (stmt.Index c) r text = record { begun = λ left. refl; unsaid = refl; room = λ k m. k }
-inside_plain (stmt.Alter altered) r text = record { begun = λ left. refl; unsaid = refl; room = λ k m. k }
+inside_plain (stmt.Alter a) r text = record { begun = λ left. refl; unsaid = refl; room = λ k m. k }
 inside_plain (stmt.Drop name) r text = record { begun = λ left. refl; unsaid = refl; room = λ k m. k }
 inside_plain (stmt.Change c) r text = record { begun = λ left. refl; unsaid = refl; room = λ k m. k }
 inside_plain (stmt.Select c) r text = record { begun = λ left. refl; unsaid = refl; room = λ k m. k }

@@ -52,10 +52,12 @@ fn refused_inside(stmt: &Stmt) -> Option<Refusal>
     ensures { result ≡ answering.refused_inside (Some stmt.now) }
 {
     match stmt {
-        Stmt::Create(_) | Stmt::Index(_) | Stmt::Digest | Stmt::Image => Some(
-            Refusal::ForbiddenInTransaction,
-        ),
-        Stmt::Alter(_) | Stmt::Drop(_) => Some(Refusal::SyntaxError),
+        Stmt::Create(_)
+        | Stmt::Index(_)
+        | Stmt::Alter(_)
+        | Stmt::Drop(_)
+        | Stmt::Digest
+        | Stmt::Image => Some(Refusal::ForbiddenInTransaction),
         Stmt::Begin => Some(Refusal::AlreadyInTransaction),
         _ => None,
     }
@@ -66,7 +68,6 @@ fn refused_outside(stmt: &Stmt, images: usize) -> Option<Refusal>
     ensures { result ≡ answering.refused_outside images (Some stmt.now) }
 {
     match stmt {
-        Stmt::Alter(_) | Stmt::Drop(_) => Some(Refusal::SyntaxError),
         Stmt::Commit | Stmt::Save(_) | Stmt::Rollback(_) => Some(Refusal::NoTransaction),
         Stmt::Image => if images == MOST_IMAGES {
             Some(Refusal::LimitExceeded)

@@ -2,6 +2,7 @@
 use Rattle.std.specs.Prelude.{ℕ, ◌≡◌, List, [], ◌∷◌, ◌++◌, map}
 use Rattle.sql_types.specs.declared.digest.Digest.{Digest}
 use Rattle.sql_types.specs.declared.journal.Journal.{Journal}
+use Rattle.sql_types.specs.declared.journal.TheConstants.{JOURNAL_VERSION}
 use Rattle.spec_model.specs.LegalJournals.{IsLegalJournal}
 use Rattle.spec_history.specs.Journals.{times}
 use Rattle.spec_history.specs.Lists.{Text, Each}
@@ -39,7 +40,8 @@ pub record CameTo (h : List ℕ → List ℕ) (database : Text) (size : ℕ) (sa
   -- transcripts, images, journal and digests agree, in the order of the lines
   pub agrees : RunAgrees h statement_of database size (sessions_of statements) (lines_of statements)
       run.X run.kept run.J.items run.G
-  -- the journal is a legal one, of the database
+  -- the journal is a legal one of a server's version, of the database
+  pub version : run.J.version ≡ JOURNAL_VERSION
   pub legal : IsLegalJournal statement_of run.J
   pub of_database : run.J.database ≡ database
   -- the times of its transactions, and those at which the digests were made

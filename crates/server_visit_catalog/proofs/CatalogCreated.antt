@@ -1,6 +1,6 @@
 -- CREATE TABLE and CREATE INDEX that have their X in the catalog.
 use Rattle.std.proofs.Common.{◌≡◌, ◌≢◌, ◌⊎◌, ℕ, ◌+◌, ◌<◌, ◌≤◌, Bool, true, false, List, [], ◌∷◌, Option, Some, None, Ok, Err, length, map, refl, sym, ap, ◌∙◌, subst, ⊎_elim, arith}
-use Rattle.std.specs.Prelude.{not, vec_capacity, ◌||◌, nat_lt, nat_le}
+use Rattle.std.specs.Prelude.{not, vec_capacity, ◌&&◌, ◌||◌, nat_lt, nat_le}
 use Rattle.std.specs.List.{AllByRecursion, list_all}
 use Rattle.std.proofs.lemmas.List.{append-nil}
 use Rattle.sql_value.specs.declared.refusal.Refusal.{Refusal}
@@ -25,6 +25,8 @@ use Rattle.spec_model.specs.Lists.{has_name, repeats}
 use Rattle.spec_model.specs.Locks.{whole}
 use Rattle.spec_model.specs.Refusals.{Checked, and_then, or_refused}
 use Rattle.spec_model.specs.Runs.{MadeBefore}
+use Rattle.spec_model.specs.LiveColumns.{live_columns}
+use Rattle.spec_model.specs.Reach.{alters}
 use Rattle.spec_model.specs.ScriptRequests.{runs}
 use Rattle.spec_model.specs.SystemTables.{columns_id}
 use Rattle.server_session.specs.CatalogVisits.{with_new_index, with_system_leaves, with_table, CreateRefused, CreatesIndex, CreatesTable, RefusesCreate}
@@ -65,21 +67,22 @@ index_named : (defs : Defs) (create : CreateIndex) (def : TableDef) (index : Ind
 unfolding index_check
 index_named defs create def index is = by_found (find_part defs create.table) refl is
   where
-    by_tests : (n : NamedPart) (a b : Bool) (part : Part) (last : Bool)
-        → refused_if {A = TableDef × IndexDef} a NameConflict (refused_if {A = TableDef × IndexDef} b LimitExceeded (refused_if {A = TableDef × IndexDef} (not (is_base part)) ReadOnlyTable (refused_if {A = TableDef × IndexDef} (not last) NoSuchColumn (Ok (n.0, index_def n.0 create))))) ≡ Ok (def, index) → (n.0 ≡ def) × (part ≢ System)
-    by_tests n true b part last e = absurd cc
-    by_tests n false true part last e = absurd cc
-    by_tests n false false History last e = absurd cc
-    by_tests n false false View last e = absurd cc
-    by_tests n false false System last e = absurd cc
-    by_tests n false false Base false e = absurd cc
-    by_tests n false false Base true e = (ap (λ (m : Checked (TableDef × IndexDef)). elim m [ Ok p ↦ p.0 | Err r ↦ def ]) e, λ f. cc)
+    by_tests : (n : NamedPart) (a b : Bool) (part : Part) (gone last : Bool)
+        → refused_if {A = TableDef × IndexDef} a NameConflict (refused_if {A = TableDef × IndexDef} b LimitExceeded (refused_if {A = TableDef × IndexDef} (not (is_base part && not gone)) ReadOnlyTable (refused_if {A = TableDef × IndexDef} (not last) NoSuchColumn (Ok (n.0, index_def n.0 create))))) ≡ Ok (def, index) → (n.0 ≡ def) × (part ≢ System)
+    by_tests n true b part gone last e = absurd cc
+    by_tests n false true part gone last e = absurd cc
+    by_tests n false false History gone last e = absurd cc
+    by_tests n false false View gone last e = absurd cc
+    by_tests n false false System gone last e = absurd cc
+    by_tests n false false Base true last e = absurd cc
+    by_tests n false false Base false false e = absurd cc
+    by_tests n false false Base false true e = (ap (λ (m : Checked (TableDef × IndexDef)). elim m [ Ok p ↦ p.0 | Err r ↦ def ]) e, λ f. cc)
 
     by_found : (n : Option NamedPart) → find_part defs create.table ≡ n → and_then (or_refused NoSuchTable n) (index_check_in create) ≡ Ok (def, index) → (part : Part) × (find_part defs create.table ≡ Some (def, part)) × (part ≢ System)
     by_found None e f = absurd cc
     by_found (Some n) e f =
         let p = by_tests n (has_name (map (λ i. i.name) n.0.indexes) create.name || repeats create.columns)
-        (nat_lt max_index_columns (length create.columns) || nat_le max_indexes (length n.0.indexes) || is_long create.name) n.1 (list_all (is_declared n.0.columns) create.columns) f in
+        (nat_lt max_index_columns (length create.columns) || nat_le max_indexes (length n.0.indexes) || is_long create.name) n.1 n.0.gone (list_all (is_declared (live_columns n.0)) create.columns) f in
         (n.1, e ∙ ap (λ (def : TableDef). Some (def, n.1)) p.0, p.1)
 
 -- ---- what it needs
@@ -109,33 +112,35 @@ module _ {H : Type 0} (digest : H → List ℕ → List ℕ) (y : Seat H) (c : C
     columns = made_before 2 (omega arith) c.columns (were_here a.cells catalog_at (Catalog c) (Catalog c) (is_out digest y c a) 2 refl);
   }
 
-  may_look_by : (s : Stmt) → runs i.o.explicit s ≡ true → MayLookFor digest s i.r c
+  -- its server reads no statement that alters
+  stays_steady : alters i.stmt ≡ false
+  stays_steady = a.v.steady y.text i.stmt (open_at_stage digest y c a Looking i).stands.is
+
+  may_look_by : (s : Stmt) → runs i.o.explicit s ≡ true → alters s ≡ false → MayLookFor digest s i.r c
   may_look_by s = by i.o.explicit s
     where
-      by : (b : Bool) (s : Stmt) → runs b s ≡ true → MayLookFor digest s i.r c
-      by b (st.Create create) e = may_create
-      by b (st.Index create) e = may_create
-      by b (st.Change row) e = tt
-      by b (st.Select q) e = tt
-      by true st.Begin e = absurd cc
-      by false st.Begin e = absurd cc
-      by true st.Commit e = absurd cc
-      by false st.Commit e = absurd cc
-      by true (st.Save name) e = absurd cc
-      by false (st.Save name) e = absurd cc
-      by true (st.Rollback name) e = absurd cc
-      by false (st.Rollback name) e = absurd cc
-      by true st.Digest e = absurd cc
-      by false st.Digest e = absurd cc
-      by true (st.Alter altered) e = absurd cc
-      by true (st.Drop name) e = absurd cc
-      by true st.Image e = absurd cc
-      by false (st.Alter altered) e = absurd cc
-      by false (st.Drop name) e = absurd cc
-      by false st.Image e = absurd cc
+      by : (b : Bool) (s : Stmt) → runs b s ≡ true → alters s ≡ false → MayLookFor digest s i.r c
+      by b (st.Create create) e steady = may_create
+      by b (st.Index create) e steady = may_create
+      by b (st.Alter x) e steady = absurd cc
+      by b (st.Drop name) e steady = absurd cc
+      by b (st.Change row) e steady = tt
+      by b (st.Select q) e steady = tt
+      by true st.Begin e steady = absurd cc
+      by false st.Begin e steady = absurd cc
+      by true st.Commit e steady = absurd cc
+      by false st.Commit e steady = absurd cc
+      by true (st.Save name) e steady = absurd cc
+      by false (st.Save name) e steady = absurd cc
+      by true (st.Rollback name) e steady = absurd cc
+      by false (st.Rollback name) e steady = absurd cc
+      by true st.Digest e steady = absurd cc
+      by false st.Digest e steady = absurd cc
+      by true st.Image e steady = absurd cc
+      by false st.Image e steady = absurd cc
 
   pub may_look_for : MayLookFor digest i.stmt i.r c
-  may_look_for = may_look_by i.stmt (may_look digest y c a i).runs
+  may_look_for = may_look_by i.stmt (may_look digest y c a i).runs stays_steady
 
   pub own_by_table : (create : CreateTable) → i.stmt ≡ st.Create create → i.o.explicit ≡ false
   own_by_table create is = own_table i.o.explicit create (subst (λ (s : Stmt). runs i.o.explicit s ≡ true) is (may_look digest y c a i).runs)
@@ -291,7 +296,7 @@ module _ {H : Type 0} (digest : H → List ℕ → List ℕ) (y : Seat H) (c d :
       by : (s : Stmt) → CreateRefused l s e → CreateRefused c s e
       by (st.Create create) f = ap (λ (x : CatalogCell). create_check x.defs create) (sym k.cell) ∙ f
       by (st.Index create) f = ap (λ (x : CatalogCell). index_check x.defs create) (sym k.cell) ∙ f
-      by (st.Alter altered) f = absurd f
+      by (st.Alter x) f = absurd f
       by (st.Drop name) f = absurd f
       by (st.Change row) f = absurd f
       by (st.Select s) f = absurd f

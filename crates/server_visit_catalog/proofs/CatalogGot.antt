@@ -12,7 +12,7 @@ use Rattle.sql_types.specs.declared.table.Part.{Part}
 use Rattle.sql_types.specs.declared.table.Part.TheVariants.{Base, History, View, System}
 use Rattle.sql_types.specs.declared.table.TableDef.{TableDef}
 use Rattle.spec_model.specs.Catalog.{Defs, NamedPart, find_part, or_in, part_named}
-use Rattle.spec_model.specs.Checks.{delete_check, insert_check, is_base, row_check, row_statement_check, table_of, update_check}
+use Rattle.spec_model.specs.Checks.{delete_check, insert_check, is_standing, row_check, row_statement_check, table_of, update_check}
 use Rattle.spec_model.specs.Effect.{query_rows}
 use Rattle.spec_model.specs.Parts.{columns_of}
 use Rattle.spec_model.specs.Query.{query_check, select_check}
@@ -91,17 +91,17 @@ blocked_select c q def part e is fails = record {
       ∙ ap error_of (check_query q (def, part) (def ∷ []) (one_found q.table (def, part) c.defs is) ∙ ap (λ (m : Checked (Unit {0})). and_then m (λ passed. Ok (def, part))) fails);
 }
 
-base_alone : (part : Part) → not (is_base part) ≡ false → part ≢ System
-base_alone Base e = λ f. cc
-base_alone History e = absurd cc
-base_alone View e = absurd cc
-base_alone System e = absurd cc
+base_alone : (def : TableDef) (part : Part) → not (is_standing def part) ≡ false → part ≢ System
+base_alone def Base e = λ f. cc
+base_alone def History e = absurd cc
+base_alone def View e = absurd cc
+base_alone def System e = absurd cc
 
 on_base : (row : RowStmt) (def : TableDef) (part : Part) → row_check row def part ≡ Ok tt → part ≢ System
 unfolding insert_check update_check delete_check
-on_base (Insert table names rows) def part e = base_alone part (was_passed _ ReadOnlyTable _ tt (not_refused _ LimitExceeded _ tt (not_refused _ NameConflict _ tt e)))
-on_base (Update table sets cond) def part e = base_alone part (was_passed _ ReadOnlyTable _ tt (not_refused _ NameConflict _ tt e))
-on_base (Delete table cond) def part e = base_alone part (was_passed _ ReadOnlyTable _ tt e)
+on_base (Insert table names rows) def part e = base_alone def part (was_passed _ ReadOnlyTable _ tt (not_refused _ LimitExceeded _ tt (not_refused _ NameConflict _ tt e)))
+on_base (Update table sets cond) def part e = base_alone def part (was_passed _ ReadOnlyTable _ tt (not_refused _ NameConflict _ tt e))
+on_base (Delete table cond) def part e = base_alone def part (was_passed _ ReadOnlyTable _ tt e)
 
 pub found_change : (c : CatalogCell) (row : RowStmt) (def : TableDef) (part : Part) → find_part c.defs (table_of row) ≡ Some (def, part) → row_check row def part ≡ Ok tt → IsFound c (st.Change row) (def, part)
 found_change c row def part is passes = record {

@@ -219,6 +219,8 @@ module _ (q : Meaning) (J : List JournalItem) (held : List HeldStatement) where
   none_of D id explicit None h = refl
   none_of D id explicit (Some (stmt.Create x)) h = absurd h
   none_of D id explicit (Some (stmt.Index x)) h = absurd h
+  none_of D id explicit (Some (stmt.Alter x)) h = absurd h
+  none_of D id explicit (Some (stmt.Drop name)) h = absurd h
   none_of D id explicit (Some (stmt.Change x)) h = absurd h
   none_of D id explicit (Some (stmt.Select x)) h = absurd h
   none_of D id true (Some stmt.Begin) h = refl
@@ -233,11 +235,7 @@ module _ (q : Meaning) (J : List JournalItem) (held : List HeldStatement) where
   none_of D id false (Some (stmt.Rollback (Some name))) h = refl
   none_of D id true (Some stmt.Digest) h = refl
   none_of D id false (Some stmt.Digest) h = refl
-  none_of D id true (Some (stmt.Alter altered)) h = refl
-  none_of D id true (Some (stmt.Drop name)) h = refl
   none_of D id true (Some stmt.Image) h = refl
-  none_of D id false (Some (stmt.Alter altered)) h = refl
-  none_of D id false (Some (stmt.Drop name)) h = refl
   none_of D id false (Some stmt.Image) h = refl
 
   none_requested : (c id : ℕ) (explicit : Bool) (text : Text) (kind : Kind) → kind_of (q.reads text) ≡ kind → IsOther kind → way c id explicit text ≡ None

@@ -43,6 +43,7 @@ pub data Kind : Type 0 where
   roll_back : Kind
   -- SAVE TRANSACTION, and ROLLBACK with a savepoint's name
   to_savepoint : Kind
+  -- CREATE, ALTER and DROP
   create : Kind
   -- INSERT, UPDATE, DELETE and SELECT
   rows : Kind
@@ -55,8 +56,8 @@ abbrev pub kind_of : Option Stmt → Kind
 kind_of None = unread
 kind_of (Some (stmt.Create x)) = create
 kind_of (Some (stmt.Index x)) = create
-kind_of (Some (stmt.Alter x)) = unread
-kind_of (Some (stmt.Drop name)) = unread
+kind_of (Some (stmt.Alter x)) = create
+kind_of (Some (stmt.Drop name)) = create
 kind_of (Some (stmt.Change x)) = rows
 kind_of (Some (stmt.Select x)) = rows
 kind_of (Some stmt.Begin) = begin

@@ -18,6 +18,7 @@ use Rattle.spec_model.specs.Checks.{row_statement_check}
 use Rattle.spec_model.specs.Query.{query_check}
 use Rattle.spec_model.specs.SystemTables.{tables_id, columns_id, column_rows}
 use Rattle.spec_model.specs.Create.{create_check, index_check, with_index}
+use Rattle.spec_model.specs.Alter.{Altered, alteration, table_drop}
 use Rattle.spec_model.specs.Effect.{Effect, query_rows, table_start, column_starts, index_starts, redefined}
 
 -- a start or an end, in the table with this id
@@ -41,13 +42,16 @@ pub data Definition : Type 0 where
   as_before : Definition
   -- a new table, without versions
   new : TableDef → Definition
-  -- in the place of the one with its id
+  -- in the place of the one with its id, with one index more
   in_place : TableDef → Definition
+  -- in the place of the one with its id, with other columns or other names
+  altered : TableDef → Definition
 
 abbrev pub defined : Definition → Tables → Tables
 defined as_before tables = tables
 defined (new def) tables = tables ++ record { def = def; versions = [] } ∷ []
 defined (in_place def) tables = redefined def tables
+defined (altered def) tables = redefined def tables
 
 pub record ChangeSet : Type 0 where
   pub changes : List TableChange
@@ -91,10 +95,23 @@ create_index_change_set (Ok x) =
     }
 create_index_change_set (Err e) = only_replies (r.Refused e)
 
+abbrev pub altered_change_set : Checked Altered → ChangeSet
+altered_change_set (Ok a) =
+    record {
+      changes = in_table tables_id a.first ++ in_table columns_id a.second;
+      definition = altered a.def;
+      reply = r.Made;
+    }
+altered_change_set (Err e) = only_replies (r.Refused e)
+
 -- what a table statement does to these tables
 unfoldable pub change_set : Tables → Stmt → ChangeSet
 change_set tables (s.Create c) = create_table_change_set (create_check (defs_of tables) c)
 change_set tables (s.Index c) = create_index_change_set (index_check (defs_of tables) c)
+change_set tables (s.Alter a) =
+    altered_change_set (alteration (defs_of tables) (versions_of tables tables_id) (versions_of tables columns_id) a)
+change_set tables (s.Drop name) =
+    altered_change_set (table_drop (defs_of tables) (versions_of tables tables_id) (versions_of tables columns_id) name)
 change_set tables (s.Change stmt) = row_stmt_change_set tables stmt (row_statement_check (defs_of tables) stmt)
 change_set tables (s.Select q) = query_change_set tables q (query_check (defs_of tables) q)
 change_set tables _ = only_replies r.NoOutput

@@ -19,6 +19,8 @@ use Rattle.sql_types.specs.declared.statement.RowStmt.{RowStmt}
 use Rattle.sql_types.specs.declared.statement.RowStmt.TheVariants.{Insert, Update, Delete}
 use Rattle.sql_types.specs.declared.table.TableDef.{TableDef}
 use Rattle.spec_model.specs.Refusals.{Checked, and_then}
+use Rattle.spec_model.specs.Columns.{names_of}
+use Rattle.spec_model.specs.LiveColumns.{live_columns}
 use Rattle.spec_model.specs.Evaluation.{meaning_of}
 use Rattle.spec_model.specs.Lists.{checked_map, checked_filter, checked_fold}
 use Rattle.spec_model.specs.Rows.{Row, EventId, stored_row, row_of, started, ended}
@@ -55,12 +57,22 @@ kept_row columns row = checked_map (λ p. kept p.0 p.1) (zip columns row)
 
 -- ---- INSERT
 
+-- the columns to which the values of a row go, by name: those listed, or the live ones. Without a list and where none was
+-- dropped they go to all.
+abbrev pub names_for : List ℕ → TableDef → Option (List (List ℕ)) → Option (List (List ℕ))
+names_for [] def names = names
+names_for (n ∷ ns) def (Some names) = Some names
+names_for (n ∷ ns) def None = Some (names_of (live_columns def))
+
+abbrev pub written_names : TableDef → Option (List (List ℕ)) → Option (List (List ℕ))
+written_names def names = names_for def.dropped def names
+
 -- what a row of VALUES gives the column of this name
 abbrev pub value_named : List (List ℕ × Value) → List ℕ → Value
 value_named [] name = Null
 value_named (p ∷ ps) name = if bytes_eq p.0 name then p.1 else value_named ps name
 
--- the values in the order of the table's columns; NULL where a column isn't listed
+-- the values in the order of the table's columns; NULL where a column isn't among those named
 unfoldable pub arranged : List ColumnDef → Option (List (List ℕ)) → Row → Row
 arranged columns None values = values
 arranged columns (Some names) values = map (λ c. value_named (zip names values) c.name) columns
@@ -131,7 +143,8 @@ deletion versions = (map (λ v. Ends v.start) versions, length versions)
 -- the changes that a row statement makes to the versions of its table, and the number of rows that it replies
 unfoldable pub row_changes : TableDef → List Version → RowStmt → Checked Changes
 row_changes def versions (Insert table names rows) =
-    and_then (inserted_rows def.columns versions names rows) (λ kept. Ok (insertion def.columns kept))
+    and_then (inserted_rows def.columns versions (written_names def names) rows)
+    (λ kept. Ok (insertion def.columns kept))
 row_changes def versions (Update table sets cond) =
     and_then (versions_matched def.columns cond versions) (λ taken.
     and_then (checked_map (row_after_set def.columns sets) taken)

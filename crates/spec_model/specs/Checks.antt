@@ -24,6 +24,7 @@ use Rattle.spec_model.specs.Classes.{class, names_columns, class_of_literal}
 use Rattle.spec_model.specs.Days.{written_day}
 use Rattle.spec_model.specs.Limits.{max_rows}
 use Rattle.spec_model.specs.Lists.{repeats}
+use Rattle.spec_model.specs.LiveColumns.{live_columns}
 use Rattle.spec_model.specs.Rows.{Row}
 use Rattle.spec_model.specs.Parts.{columns_of}
 use Rattle.spec_model.specs.Catalog.{Defs, find_part}
@@ -83,7 +84,7 @@ cond_is_truth columns (Some e) = is_truth (class columns (tree e))
 
 -- ---- columns
 
--- the column is declared
+-- a column of this name is among these
 abbrev pub is_declared : List ColumnDef → List ℕ → Bool
 is_declared columns name = is_some (place_of columns name)
 
@@ -112,6 +113,10 @@ abbrev pub is_base : Part → Bool
 is_base Base = true
 is_base _ = false
 
+-- statements may change it: it is no history table, view or system table, and wasn't dropped
+abbrev pub is_standing : TableDef → Part → Bool
+is_standing def part = is_base part && not def.gone
+
 abbrev pub is_append_only : TableKind → Bool
 is_append_only AppendOnly = true
 is_append_only Updatable = false
@@ -125,25 +130,26 @@ listed_check columns rows =
     (refused_if (not (list_all (λ row. list_all (λ p. accepts_value p.0 p.1) (zip columns row)) rows)) TypeMismatch
     (Ok tt))
 
--- NoSuchColumn of an INSERT, and these
+-- NoSuchColumn of an INSERT into a table with these live columns, and these
 unfoldable pub values_check : List ColumnDef → Option (List (List ℕ)) → List Row → Checked (Unit {0})
-values_check declared names rows =
-    refused_if (not (list_all (is_declared declared) (names_listed names))) NoSuchColumn
-    (listed_check (listed declared names) rows)
+values_check live names rows =
+    refused_if (not (list_all (is_declared live) (names_listed names))) NoSuchColumn
+    (listed_check (listed live names) rows)
 
 unfoldable pub insert_check : TableDef → Part → Option (List (List ℕ)) → List Row → Checked (Unit {0})
 insert_check def part names rows =
     refused_if (repeats (names_listed names)) NameConflict
     (refused_if (nat_lt max_rows (length rows)) LimitExceeded
-    (refused_if (not (is_base part)) ReadOnlyTable
-    (values_check def.columns names rows)))
+    (refused_if (not (is_standing def part)) ReadOnlyTable
+    (values_check (live_columns def) names rows)))
 
--- NoSuchColumn, KeyNotUpdatable and TypeMismatch of an UPDATE: the columns that are declared, and all that expressions may name
-unfoldable pub sets_check : List ColumnDef → List ColumnDef → List (List ℕ × Expr) → Option Expr
+-- NoSuchColumn, KeyNotUpdatable and TypeMismatch of an UPDATE of a table with these live columns: all that are declared,
+-- and all that expressions may name
+unfoldable pub sets_check : List ColumnDef → List ColumnDef → List ColumnDef → List (List ℕ × Expr) → Option Expr
     → Checked (Unit {0})
-sets_check declared columns sets cond =
+sets_check live declared columns sets cond =
     refused_if
-    (not (list_all (λ s. is_declared declared s.0 && names_columns columns (tree s.1)) sets
+    (not (list_all (λ s. is_declared live s.0 && names_columns columns (tree s.1)) sets
     && cond_names columns cond)) NoSuchColumn
     (refused_if (list_any (λ s. is_in_key declared s.0) sets) KeyNotUpdatable
     (refused_if (not (list_all (λ s. accepts_set columns (column_of declared s.0) s.1) sets
@@ -153,13 +159,13 @@ sets_check declared columns sets cond =
 unfoldable pub update_check : TableDef → Part → List (List ℕ × Expr) → Option Expr → Checked (Unit {0})
 update_check def part sets cond =
     refused_if (repeats (map (λ s. s.0) sets)) NameConflict
-    (refused_if (not (is_base part)) ReadOnlyTable
+    (refused_if (not (is_standing def part)) ReadOnlyTable
     (refused_if (is_append_only def.kind) AppendOnlyTable
-    (sets_check def.columns (columns_of def Base) sets cond)))
+    (sets_check (live_columns def) def.columns (columns_of def Base) sets cond)))
 
 unfoldable pub delete_check : TableDef → Part → Option Expr → Checked (Unit {0})
 delete_check def part cond =
-    refused_if (not (is_base part)) ReadOnlyTable
+    refused_if (not (is_standing def part)) ReadOnlyTable
     (refused_if (is_append_only def.kind) AppendOnlyTable
     (refused_if (not (cond_names (columns_of def Base) cond)) NoSuchColumn
     (refused_if (not (cond_is_truth (columns_of def Base) cond)) TypeMismatch

@@ -1,9 +1,12 @@
 -- The columns of a table or view, and rows of values beside them.
-use Rattle.std.specs.Prelude.{ℕ, Bool, true, false, ◌&&◌, List, [], ◌∷◌, Option, option_and_then, position, slice_get}
+use Rattle.std.specs.Prelude.{ℕ, Bool, true, false, ◌&&◌, List, [], ◌∷◌, map, Option, option_and_then, position, slice_get}
 use Rattle.std.specs.Str.{bytes_eq}
 use Rattle.sql_value.specs.declared.value.Value.{Value}
 use Rattle.sql_value.specs.declared.column.ColumnDef.{ColumnDef}
 use Rattle.sql_value.specs.Stored.{is_stored}
+
+abbrev pub names_of : List ColumnDef → List (List ℕ)
+names_of columns = map (λ c. c.name) columns
 
 -- the place of the first column of this name, counted from 0
 abbrev pub place_of : List ColumnDef → List ℕ → Option ℕ

@@ -14,16 +14,15 @@ use Rattle.sql_types.specs.declared.table.IndexDef.{IndexDef}
 use Rattle.sql_types.specs.declared.statement.CreateTable.{CreateTable}
 use Rattle.sql_types.specs.declared.statement.CreateIndex.{CreateIndex}
 use Rattle.spec_model.specs.Refusals.{Checked, and_then, or_refused}
+pub use Rattle.spec_model.specs.Columns.{names_of}
 use Rattle.spec_model.specs.Columns.{place_of}
+use Rattle.spec_model.specs.LiveColumns.{live_columns}
 use Rattle.spec_model.specs.Limits.{max_columns, max_key_columns, max_tables, max_indexes, max_index_columns, max_name_bytes}
 use Rattle.spec_model.specs.Lists.{has_name, repeats}
 use Rattle.spec_model.specs.Catalog.{Defs, NamedPart, find_part}
-use Rattle.spec_model.specs.Checks.{refused_if, is_base, is_declared}
+use Rattle.spec_model.specs.Checks.{refused_if, is_standing, is_declared}
 
 -- ---- names
-
-abbrev pub names_of : List ColumnDef → List (List ℕ)
-names_of columns = map (λ c. c.name) columns
 
 abbrev pub is_name : List ℕ → Bool
 is_name [] = false
@@ -151,8 +150,8 @@ index_check_in c n =
     refused_if (has_name (map (λ i. i.name) n.0.indexes) c.name || repeats c.columns) NameConflict
     (refused_if (nat_lt max_index_columns (length c.columns) || nat_le max_indexes (length n.0.indexes)
     || is_long c.name) LimitExceeded
-    (refused_if (not (is_base n.1)) ReadOnlyTable
-    (refused_if (not (list_all (is_declared n.0.columns) c.columns)) NoSuchColumn
+    (refused_if (not (is_standing n.0 n.1)) ReadOnlyTable
+    (refused_if (not (list_all (is_declared (live_columns n.0)) c.columns)) NoSuchColumn
     (Ok (n.0, index_def n.0 c)))))
 
 unfoldable pub index_check : Defs → CreateIndex → Checked (TableDef × IndexDef)

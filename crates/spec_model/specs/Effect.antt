@@ -21,6 +21,7 @@ use Rattle.spec_model.specs.Checks.{row_statement_check}
 use Rattle.spec_model.specs.Query.{query_check, selected}
 use Rattle.spec_model.specs.SystemTables.{tables_id, columns_id, tables_columns, columns_columns, table_row, column_rows, index_rows}
 use Rattle.spec_model.specs.Create.{create_check, index_check, with_index}
+use Rattle.spec_model.specs.Alter.{Altered, alteration, table_drop}
 
 pub record Effect : Type 0 where
   pub tables : Tables
@@ -56,7 +57,7 @@ shown tables seq (Err e) = refused tables seq e
 -- the rows that a SELECT shows of a part of a table with these versions
 unfoldable pub query_rows : Select → NamedPart → List Version → Checked (List Row)
 query_rows q n versions =
-    selected (columns_of n.0 n.1) (shown_of n.0 n.1) q
+    selected (columns_of n.0 n.1) n.0.dropped (shown_of n.0 n.1) q
     (rows_of n.0 n.1 (key_fixed n.0.columns q.cond) versions)
 
 abbrev pub query_effect : Tables → ℕ → Select → Checked NamedPart → Effect
@@ -108,12 +109,29 @@ index_effect tables tx seq (Ok x) =
     }
 index_effect tables tx seq (Err e) = refused tables seq e
 
+-- ---- ALTER TABLE and DROP TABLE
+
+abbrev pub altered_effect : Tables → ℕ → ℕ → Checked Altered → Effect
+altered_effect tables tx seq (Ok a) =
+    record {
+      tables = redefined a.def (with_system_rows tx seq a.first a.second tables);
+      seq = seq + length a.first + length a.second;
+      reply = r.Made;
+    }
+altered_effect tables tx seq (Err e) = refused tables seq e
+
 -- ---- one table statement of transaction tx, whose next event has the number seq
 
 -- Other statements do nothing here.
 unfoldable pub effect : Tables → ℕ → ℕ → Stmt → Effect
 effect tables tx seq (s.Create c) = table_effect tables tx seq (create_check (defs_of tables) c)
 effect tables tx seq (s.Index c) = index_effect tables tx seq (index_check (defs_of tables) c)
+effect tables tx seq (s.Alter a) =
+    altered_effect tables tx seq
+    (alteration (defs_of tables) (versions_of tables tables_id) (versions_of tables columns_id) a)
+effect tables tx seq (s.Drop name) =
+    altered_effect tables tx seq
+    (table_drop (defs_of tables) (versions_of tables tables_id) (versions_of tables columns_id) name)
 effect tables tx seq (s.Change stmt) =
     row_effect tables tx seq stmt (row_statement_check (defs_of tables) stmt)
 effect tables tx seq (s.Select q) = query_effect tables seq q (query_check (defs_of tables) q)

@@ -1,4 +1,5 @@
 pub mod Agreement
+pub mod Alter
 pub mod Catalog
 pub mod Changes
 pub mod Checks
@@ -16,6 +17,7 @@ pub mod Keys
 pub mod LegalJournals
 pub mod Limits
 pub mod Lists
+pub mod LiveColumns
 pub mod Locks
 pub mod NoClash
 pub mod Numbers

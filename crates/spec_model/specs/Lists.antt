@@ -1,6 +1,6 @@
--- Words on lists: sorting, going through one item after another until one is refused, names.
-use Rattle.std.specs.Prelude.{ℕ, ◌+◌, ◌||◌, Bool, false, if◌then◌else◌, List, [], ◌∷◌, Option, Some, None, Ok}
-use Rattle.std.specs.List.{list_any}
+-- Words on lists: sorting, going through one item after another until one is refused, names, numbers.
+use Rattle.std.specs.Prelude.{ℕ, ◌+◌, ◌==◌, ◌||◌, not, max, Bool, false, if◌then◌else◌, List, [], ◌∷◌, map, Option, Some, None, Ok}
+use Rattle.std.specs.List.{list_any, filter}
 use Rattle.std.specs.Str.{bytes_eq}
 use Rattle.std.specs.declared.cmp.Ordering.{Ordering}
 use Rattle.std.specs.Ordering.{is_gt}
@@ -63,7 +63,23 @@ abbrev pub repeats : List (List ℕ) → Bool
 repeats [] = false
 repeats (n ∷ ns) = has_name ns n || repeats ns
 
+-- ---- numbers
+
 -- with their numbers, counted from this one
 abbrev pub numbered : {A : Type 0} → ℕ → List A → List (ℕ × A)
 numbered n [] = []
 numbered n (x ∷ xs) = (n, x) ∷ numbered (n + 1) xs
+
+-- the number is one of these
+abbrev pub is_among : List ℕ → ℕ → Bool
+is_among numbers n = list_any (λ m. m == n) numbers
+
+-- all but those whose numbers, counted from 1, are among these
+abbrev pub without : {A : Type 0} → List ℕ → List A → List A
+without [] xs = xs
+without (n ∷ ns) xs = map (λ p. p.1) (filter (λ p. not (is_among (n ∷ ns) p.0)) (numbered 1 xs))
+
+-- the greatest of them, 0 where there are none
+abbrev pub greatest : List ℕ → ℕ
+greatest [] = 0
+greatest (n ∷ ns) = max n (greatest ns)

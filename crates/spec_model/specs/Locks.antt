@@ -22,7 +22,7 @@ use Rattle.spec_model.specs.Lists.{all_some}
 use Rattle.spec_model.specs.Rows.{Row}
 use Rattle.spec_model.specs.Keys.{Key, key_columns, key_places, value_at, same_key}
 use Rattle.spec_model.specs.Where.{key_fixed}
-use Rattle.spec_model.specs.Changes.{arranged}
+use Rattle.spec_model.specs.Changes.{written_names, arranged}
 use Rattle.spec_model.specs.Catalog.{Defs, NamedPart}
 use Rattle.spec_model.specs.Checks.{row_statement_check}
 use Rattle.spec_model.specs.Query.{query_check}
@@ -62,14 +62,17 @@ whole mode = record { item = item.Whole; mode = mode }
 abbrev pub of_key : Mode → Key → LockRequest
 of_key mode key = record { item = item.Key key; mode = mode }
 
--- in the catalog: CREATE wants X, the other table statements S. A CREATE in a transaction that BEGIN opened
--- is refused
--- before.
+-- in the catalog: CREATE, ALTER and DROP want X, the other table statements S. In a transaction that BEGIN opened the
+-- first are refused before.
 abbrev pub catalog_request : Bool → Stmt → Option Mode
 catalog_request true (s.Create c) = None
 catalog_request true (s.Index c) = None
+catalog_request true (s.Alter a) = None
+catalog_request true (s.Drop name) = None
 catalog_request false (s.Create c) = Some X
 catalog_request false (s.Index c) = Some X
+catalog_request false (s.Alter a) = Some X
+catalog_request false (s.Drop name) = Some X
 catalog_request explicit (s.Change stmt) = Some S
 catalog_request explicit (s.Select q) = Some S
 catalog_request explicit _ = None
@@ -99,7 +102,8 @@ by_keys (Some keys) = whole IX ∷ map (of_key X) keys
 by_keys None = whole X ∷ []
 
 unfoldable pub row_requests : TableDef → RowStmt → List LockRequest
-row_requests def (Insert table names rows) = by_keys (all_some (map (key_inserted def.columns names) rows))
+row_requests def (Insert table names rows) =
+    by_keys (all_some (map (key_inserted def.columns (written_names def names)) rows))
 row_requests def (Update table sets cond) = by_key_or_whole IX X (key_fixed def.columns cond)
 row_requests def (Delete table cond) = by_key_or_whole IX X (key_fixed def.columns cond)
 

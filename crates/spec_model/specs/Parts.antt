@@ -1,5 +1,5 @@
 -- The parts of a table: its columns and its rows as each part shows them.
-use Rattle.std.specs.Prelude.{ℕ, false, List, [], ◌∷◌, ◌++◌, map, flat_map, length, codes, Option, Some, None}
+use Rattle.std.specs.Prelude.{ℕ, false, List, [], ◌∷◌, ◌++◌, map, flat_map, take, length, codes, Option, Some, None}
 use Rattle.sql_value.specs.declared.value.Value.TheVariants.{Text}
 use Rattle.sql_value.specs.declared.column.ColumnDef.{ColumnDef}
 use Rattle.sql_value.specs.declared.sql_type.SqlType.{SqlType}
@@ -8,7 +8,7 @@ use Rattle.sql_types.specs.declared.table.TableDef.{TableDef}
 use Rattle.sql_types.specs.declared.table.Part.{Part}
 use Rattle.sql_types.specs.declared.table.Part.TheVariants.{Base, History, View, System}
 use Rattle.sql_types.specs.declared.version.Version.{Version}
-use Rattle.spec_model.specs.Lists.{sorted}
+use Rattle.spec_model.specs.Lists.{sorted, without}
 use Rattle.spec_model.specs.Rows.{Row, EventId, event_cmp, number, row_of}
 use Rattle.spec_model.specs.Keys.{Key, live_by_key}
 
@@ -47,16 +47,20 @@ added History = history_columns
 added View = view_columns
 added System = start_columns
 
--- the declared columns, and then the added ones
+-- the declared columns, dropped ones among them, and then the added ones
 abbrev pub columns_of : TableDef → Part → List ColumnDef
 columns_of def part = def.columns ++ added part
 
--- how many of them `*` gives: a base table and a system table hide those of the start
+-- how many of them `*` looks at: a base table and a system table hide those of the start
 abbrev pub shown_of : TableDef → Part → ℕ
 shown_of def Base = length def.columns
 shown_of def History = length (columns_of def History)
 shown_of def View = length (columns_of def View)
 shown_of def System = length def.columns
+
+-- what `*` gives of a row: of its first values, so many, all but those of dropped columns
+abbrev pub what_shown : List ℕ → ℕ → Row → Row
+what_shown dropped shown row = without dropped (take shown row)
 
 -- ---- rows
 

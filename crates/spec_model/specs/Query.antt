@@ -1,5 +1,5 @@
 -- SELECT: what is checked, and the rows that it shows.
-use Rattle.std.specs.Prelude.{ℕ, ◌&&◌, not, Bool, true, false, if◌then◌else◌, List, [], ◌∷◌, map, take, length, Option, Some, None, Ok, Err}
+use Rattle.std.specs.Prelude.{ℕ, ◌&&◌, not, Bool, true, false, if◌then◌else◌, List, [], ◌∷◌, map, length, Option, Some, None, Ok, Err}
 use Rattle.std.specs.List.{list_all}
 use Rattle.std.specs.declared.cmp.Ordering.{Ordering}
 use Rattle.std.specs.declared.cmp.Ordering.TheVariants.{Equal}
@@ -23,7 +23,7 @@ use Rattle.spec_model.specs.Classes.{class_of_type}
 use Rattle.spec_model.specs.Lists.{sorted, checked_map, checked_filter, checked_fold}
 use Rattle.spec_model.specs.Rows.{Row, number}
 use Rattle.spec_model.specs.Keys.{value_at}
-use Rattle.spec_model.specs.Parts.{columns_of}
+use Rattle.spec_model.specs.Parts.{columns_of, what_shown}
 use Rattle.spec_model.specs.Where.{holds}
 use Rattle.spec_model.specs.Catalog.{Defs, NamedPart, find_part}
 use Rattle.spec_model.specs.Checks.{refused_if, is_declared, cond_names, cond_is_truth}
@@ -113,15 +113,15 @@ agg_value columns rows (Sum name) = total (map (value_in (place_of columns name)
 abbrev pub projected : List ColumnDef → List (List ℕ) → Row → Row
 projected columns names row = map (λ name. value_in (place_of columns name) row) names
 
-abbrev pub apply_select_list : List ColumnDef → ℕ → SelectList → List Row → Checked (List Row)
-apply_select_list columns shown All rows = Ok (map (take shown) rows)
-apply_select_list columns shown (Columns names) rows = Ok (map (projected columns names) rows)
-apply_select_list columns shown (Aggs aggs) rows =
+abbrev pub apply_select_list : List ColumnDef → List ℕ → ℕ → SelectList → List Row → Checked (List Row)
+apply_select_list columns dropped shown All rows = Ok (map (what_shown dropped shown) rows)
+apply_select_list columns dropped shown (Columns names) rows = Ok (map (projected columns names) rows)
+apply_select_list columns dropped shown (Aggs aggs) rows =
     and_then (checked_map (agg_value columns rows) aggs) (λ values. Ok (values ∷ []))
 
 -- of the rows of a part those that the condition takes, sorted, and of each what is to be shown; `*` shows so
--- many columns
-unfoldable pub selected : List ColumnDef → ℕ → Select → List Row → Checked (List Row)
-selected columns shown q rows =
+-- many columns without the dropped ones
+unfoldable pub selected : List ColumnDef → List ℕ → ℕ → Select → List Row → Checked (List Row)
+selected columns dropped shown q rows =
     and_then (checked_filter (holds columns q.cond) rows) (λ taken.
-    apply_select_list columns shown q.what (sorted (order_cmp columns q.order) taken))
+    apply_select_list columns dropped shown q.what (sorted (order_cmp columns q.order) taken))

@@ -17,7 +17,15 @@ use Rattle.spec_model.specs.Agreement.{LockRequests}
 abbrev pub creates : Stmt → Bool
 creates (s.Create c) = true
 creates (s.Index c) = true
+creates (s.Alter a) = true
+creates (s.Drop name) = true
 creates _ = false
+
+-- it changes a table that there is already: its columns or its names
+abbrev pub alters : Stmt → Bool
+alters (s.Alter a) = true
+alters (s.Drop name) = true
+alters _ = false
 
 -- the rows of this key are among the item
 abbrev pub has_key : Key → Item → Bool

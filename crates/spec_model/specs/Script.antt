@@ -71,12 +71,12 @@ rolls_back_to x name = rolled_back x (back_to x.saved name)
 
 -- ---- a statement
 
--- In a transaction that BEGIN opened. ALTER TABLE and DROP TABLE aren't carried out by any version yet.
+-- in a transaction that BEGIN opened
 abbrev pub in_transaction : ℕ → State → Stmt → Step
 in_transaction tx x (s.Create c) = refuses x ForbiddenInTransaction
 in_transaction tx x (s.Index c) = refuses x ForbiddenInTransaction
-in_transaction tx x (s.Alter a) = refuses x SyntaxError
-in_transaction tx x (s.Drop name) = refuses x SyntaxError
+in_transaction tx x (s.Alter a) = refuses x ForbiddenInTransaction
+in_transaction tx x (s.Drop name) = refuses x ForbiddenInTransaction
 in_transaction tx x (s.Change stmt) = by_effect x (effect x.tables tx x.seq (s.Change stmt))
 in_transaction tx x (s.Select q) = by_effect x (effect x.tables tx x.seq (s.Select q))
 in_transaction tx x s.Begin = refuses x AlreadyInTransaction
@@ -91,8 +91,8 @@ in_transaction tx x s.Image = refuses x ForbiddenInTransaction
 abbrev pub alone : ℕ → State → Stmt → Step
 alone tx x (s.Create c) = by_effect x (effect x.tables tx x.seq (s.Create c))
 alone tx x (s.Index c) = by_effect x (effect x.tables tx x.seq (s.Index c))
-alone tx x (s.Alter a) = refuses x SyntaxError
-alone tx x (s.Drop name) = refuses x SyntaxError
+alone tx x (s.Alter a) = by_effect x (effect x.tables tx x.seq (s.Alter a))
+alone tx x (s.Drop name) = by_effect x (effect x.tables tx x.seq (s.Drop name))
 alone tx x (s.Change stmt) = by_effect x (effect x.tables tx x.seq (s.Change stmt))
 alone tx x (s.Select q) = by_effect x (effect x.tables tx x.seq (s.Select q))
 alone tx x s.Begin = answered x r.NoOutput

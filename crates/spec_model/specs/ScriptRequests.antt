@@ -12,12 +12,16 @@ abbrev pub text_requests : Defs → Bool → Option Stmt → LockRequests
 text_requests defs explicit None = record { catalog = None; cell = None }
 text_requests defs explicit (Some stmt) = requests_of defs explicit stmt
 
--- a table statement: in a transaction that BEGIN opened, one that doesn't create
+-- a table statement: in a transaction that BEGIN opened, one that leaves the definitions
 abbrev pub runs : Bool → Stmt → Bool
 runs true (s.Create c) = false
 runs true (s.Index c) = false
+runs true (s.Alter a) = false
+runs true (s.Drop name) = false
 runs false (s.Create c) = true
 runs false (s.Index c) = true
+runs false (s.Alter a) = true
+runs false (s.Drop name) = true
 runs explicit (s.Change stmt) = true
 runs explicit (s.Select q) = true
 runs explicit _ = false

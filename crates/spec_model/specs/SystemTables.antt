@@ -1,7 +1,7 @@
 -- The tables of the system: their definitions, and the rows that they have of each table and index.
-use Rattle.std.specs.Prelude.{ℕ, ◌+◌, ◌*◌, Bool, true, false, List, [], ◌∷◌, map, codes}
+use Rattle.std.specs.Prelude.{ℕ, ℤ, pos, negsuc, ◌+◌, ◌*◌, Bool, true, false, if◌then◌else◌, List, [], ◌∷◌, map, codes}
 use Rattle.sql_value.specs.declared.value.Value.{Value}
-use Rattle.sql_value.specs.declared.value.Value.TheVariants.{Null, Text}
+use Rattle.sql_value.specs.declared.value.Value.TheVariants.{Null, Num, Text}
 use Rattle.sql_value.specs.declared.column.ColumnDef.{ColumnDef}
 use Rattle.sql_value.specs.declared.column.TableKind.{TableKind}
 use Rattle.sql_value.specs.declared.column.TableKind.TheVariants.{AppendOnly, Updatable}
@@ -12,6 +12,7 @@ use Rattle.sql_types.specs.declared.table.IndexDef.{IndexDef}
 use Rattle.sql_types.specs.declared.version.Table.{Table}
 use Rattle.sql_value.specs.TypeCodes.{type_code, first_parameter, second_parameter}
 use Rattle.spec_model.specs.Lists.{numbered}
+use Rattle.spec_model.specs.LiveColumns.{is_dropped}
 use Rattle.spec_model.specs.Rows.{Row, number}
 
 -- ---- definitions
@@ -94,18 +95,26 @@ abbrev pub bit : Bool → ℕ
 bit true = 1
 bit false = 0
 
--- the row of a new table; its change is 0
-unfoldable pub table_row : TableDef → Row
-table_row def =
-    number def.id ∷ number 0 ∷ Text def.name ∷ number (kind_code def.kind)
+-- the row of a table, by this change and with this kind
+abbrev pub table_row_with : ℕ → ℕ → TableDef → Row
+table_row_with change kind def =
+    number def.id ∷ number change ∷ Text def.name ∷ number kind
     ∷ history_value def.kind def.history ∷ Text def.view ∷ []
 
--- the row of a column, whose item is its ordinal
-abbrev pub column_row : ℕ → ℕ × ColumnDef → Row
-column_row id c =
-    number id ∷ number c.0 ∷ number 0 ∷ Text c.1.name ∷ number (type_code c.1.ty)
+-- the row of a new table; its change is 0
+unfoldable pub table_row : TableDef → Row
+table_row def = table_row_with 0 (kind_code def.kind) def
+
+-- the row of a column of the table with this id, by this change and with this key position; its item is its ordinal
+abbrev pub column_row_with : ℕ → ℤ → ℕ → ℕ × ColumnDef → Row
+column_row_with change position id c =
+    number id ∷ number c.0 ∷ number change ∷ Text c.1.name ∷ number (type_code c.1.ty)
     ∷ number (first_parameter c.1.ty)
-    ∷ number (second_parameter c.1.ty) ∷ number (bit c.1.nullable) ∷ number c.1.key_position ∷ []
+    ∷ number (second_parameter c.1.ty) ∷ number (bit c.1.nullable) ∷ Num 0 position ∷ []
+
+-- the row of a column of a new table
+abbrev pub column_row : ℕ → ℕ × ColumnDef → Row
+column_row id c = column_row_with 0 (pos c.1.key_position) id c
 
 -- one for each column, by ordinal
 unfoldable pub column_rows : TableDef → List Row
@@ -121,3 +130,21 @@ index_row id g name part =
 -- one for each part of the index that is number g of its table
 unfoldable pub index_rows : ℕ → ℕ → IndexDef → List Row
 index_rows id g index = map (index_row id g index.name) (numbered 1 index.ordinals)
+
+-- ---- rows of later changes
+
+-- the kind in the row of a table: 3 or 4 where it was dropped
+abbrev pub kind_in_row : TableDef → ℕ
+kind_in_row def = if def.gone then kind_code def.kind + 2 else kind_code def.kind
+
+-- the key position in the row of a column: -1 where it was dropped
+abbrev pub position_in_row : TableDef → ℕ × ColumnDef → ℤ
+position_in_row def c = if is_dropped def c.0 then negsuc 0 else pos c.1.key_position
+
+-- the row of a table as this change leaves it
+unfoldable pub changed_table_row : ℕ → TableDef → Row
+changed_table_row change def = table_row_with change (kind_in_row def) def
+
+-- the row of a column as this change leaves it
+unfoldable pub changed_column_row : ℕ → TableDef → ℕ × ColumnDef → Row
+changed_column_row change def c = column_row_with change (position_in_row def c) def.id c

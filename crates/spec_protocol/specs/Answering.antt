@@ -21,8 +21,8 @@ abbrev pub refused_inside : Option Stmt → Option Refusal
 refused_inside None = Some SyntaxError
 refused_inside (Some (stmt.Create c)) = Some ForbiddenInTransaction
 refused_inside (Some (stmt.Index c)) = Some ForbiddenInTransaction
-refused_inside (Some (stmt.Alter a)) = Some SyntaxError
-refused_inside (Some (stmt.Drop name)) = Some SyntaxError
+refused_inside (Some (stmt.Alter a)) = Some ForbiddenInTransaction
+refused_inside (Some (stmt.Drop name)) = Some ForbiddenInTransaction
 refused_inside (Some stmt.Begin) = Some AlreadyInTransaction
 refused_inside (Some stmt.Digest) = Some ForbiddenInTransaction
 refused_inside (Some stmt.Image) = Some ForbiddenInTransaction
@@ -31,8 +31,6 @@ refused_inside _ = None
 -- where none is open; so many images were kept
 abbrev pub refused_outside : ℕ → Option Stmt → Option Refusal
 refused_outside images None = Some SyntaxError
-refused_outside images (Some (stmt.Alter a)) = Some SyntaxError
-refused_outside images (Some (stmt.Drop name)) = Some SyntaxError
 refused_outside images (Some stmt.Commit) = Some NoTransaction
 refused_outside images (Some (stmt.Save name)) = Some NoTransaction
 refused_outside images (Some (stmt.Rollback name)) = Some NoTransaction

@@ -10,6 +10,7 @@ ghost use Rattle.spec_model.specs.Changes as spec;
 use crate::inserting::inserted_rows;
 use crate::matching::versions_matched;
 use crate::setting::{replacement, rows_after_set};
+use crate::written::WrittenNames;
 use base_types::{Items, Memory, Name};
 use sql_parts::{KeyedTable, LiveVersions, stored_row};
 use sql_types::{Change, Row, RowStmt, Version};
@@ -70,10 +71,12 @@ fn insert<R: LiveVersions>(
 ) -> Result<(Items<Change>, u64), Refusal>
     requires { R.are_of versions.now table.now }
     ensures { MatchesUnlessOom
-        (and_then (spec.inserted_rows table.now.columns (R.versions versions.now) names.now rows.now)
+        (and_then (spec.inserted_rows table.now.columns (R.versions versions.now)
+        (spec.written_names table.now names.now) rows.now)
         (λ kept. Ok (spec.insertion table.now.columns kept))) result }
 {
-    let rows = inserted_rows(alloc, table, versions, names, rows.as_slice())?;
+    let names = WrittenNames::of(alloc, table.def(), names)?;
+    let rows = inserted_rows(alloc, table, versions, names.get(), rows.as_slice())?;
     let count = rows.len() as u64;
     let changes = starts(alloc, table.columns(), rows)?;
     Ok((changes, count))

@@ -1,2 +1,4 @@
+pub mod Alterations
 pub mod Lists
+pub mod NameSets
 pub mod NewTables

@@ -1,7 +1,7 @@
 -- The checks of a new table's definition are those of what is written of it.
-use Rattle.std.proofs.Common.{◌≡◌, ◌∙◌, ℕ, suc, refl, sym, ap, arith, Bool, true, false, List, [], ◌∷◌, ◌++◌, map, length, Some, None, Ok, Err, Option}
+use Rattle.std.proofs.Common.{◌≡◌, ◌≢◌, ◌∙◌, ℕ, suc, refl, sym, ap, arith, Bool, true, false, List, [], ◌∷◌, ◌++◌, map, length, Some, None, Ok, Err, Option}
 use Rattle.std.proofs.lemmas.Grind.{common_steps}
-use Rattle.std.specs.Prelude.{cond, ◌≤◌, ◌+◌, ◌==◌, ◌&&◌, ◌||◌, not, nat_lt, nat_le, if◌then◌else◌, is_some}
+use Rattle.std.specs.Prelude.{cond, ◌≤◌, ◌+◌, ◌==◌, ◌&&◌, ◌||◌, not, nat_lt, nat_le, if◌then◌else◌, is_some, IsErrAnd}
 use Rattle.std.specs.List.{list_all, list_any, filter, position_or_len}
 use Rattle.std.specs.Str.{bytes_eq}
 use Rattle.sql_value.specs.declared.column.ColumnDef.{ColumnDef}
@@ -14,13 +14,12 @@ use Rattle.spec_model.specs.Lists.{has_name, repeats}
 use Rattle.spec_model.specs.Limits.{max_columns, max_key_columns, max_tables}
 use Rattle.spec_model.specs.Catalog.{Defs, NamedPart, find_part, is_named, or_in, own_part, part_named}
 use Rattle.sql_value.specs.declared.refusal.Refusal.{Refusal}
-use Rattle.sql_value.specs.declared.refusal.Refusal.TheVariants.{NameConflict, NoSuchColumn, NullNotAllowed, LimitExceeded}
+use Rattle.sql_value.specs.declared.refusal.Refusal.TheVariants.{NameConflict, NoMemory, NoSuchColumn, NullNotAllowed, LimitExceeded}
 use Rattle.spec_model.specs.Refusals.{Checked, MatchesUnlessOom, and_then}
 use Rattle.spec_model.specs.Checks.{refused_if, is_declared}
 use Rattle.spec_model.specs.Create.{names_of, is_name, table_names, all_names, keyed, key_position_of, ordinal_at, table_def, is_long, is_ledger_name, system_tables, has_bad_name, exceeds_limit, has_null_key, history_of, view_of, next_id, create_check}
 use Rattle.sql_check.specs.NewTable as new
 use Rattle.sql_check.proofs.Lists.{any_map}
-use Rattle.sql_parts.proofs.Refusals.{gives_itself}
 
 -- ---- names
 
@@ -282,8 +281,10 @@ module _ (defs : Defs) (c : CreateTable) (count : ℕ) (h v : List ℕ) (counted
   pub refused : (e : Refusal) → new.new_check defs c h v ≡ Err e → create_check defs c ≡ Err e
   refused e is = by_check ∙ ap (λ r. and_then r (λ u. Ok (table_def (count + 1) c))) is
 
-  pub refused_gives : (e : Refusal) (r : Checked TableDef) → r ≡ Err e → new.new_check defs c h v ≡ Err e → MatchesUnlessOom (create_check defs c) r
-  refused_gives e r is_err is = gives_itself (create_check defs c) r (refused e is ∙ sym is_err)
+  pub refused_gives : (e : Refusal) (r : Checked TableDef) → IsErrAnd r (λ x. x ≡ e) → (e ≢ NoMemory → new.new_check defs c h v ≡ Err e)
+      → MatchesUnlessOom (create_check defs c) r
+  refused_gives e (Ok def) fails is = absurd fails
+  refused_gives e (Err x) fails is = λ kept. refused e (is (λ lacks. kept (fails ∙ lacks))) ∙ ap Err (sym fails)
 
   pub made : (u : Unit {0}) → new.new_check defs c h v ≡ Ok u
       → create_check defs c ≡ Ok (record { id = count + 1; name = c.name; kind = c.kind; gone = false; history = h; view = v; columns = map (keyed c.key) c.columns; dropped = []; indexes = [] })

@@ -1,1 +1,3 @@
+pub mod Altering
+pub mod NameSet
 pub mod NewTable

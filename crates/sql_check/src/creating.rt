@@ -18,7 +18,7 @@ use sql_value::{ColumnDef, Refusal, TableKind};
 use std::alloc::Global;
 
 /// The most columns of a table.
-const MOST_COLUMNS: usize = 64;
+pub const MOST_COLUMNS: usize = 64;
 
 /// The most columns of a primary key.
 const MOST_KEY_COLUMNS: usize = 4;
@@ -79,7 +79,7 @@ fn view_name(alloc: Global, table: &Name, written: &Option<Name>) -> Result<Name
 }
 
 /// Whether the name begins as those of added columns do, in any case.
-fn is_ledger_name(name: &Name) -> bool
+pub fn is_ledger_name(name: &Name) -> bool
     ensures { result ≡ spec.is_ledger_name name.now }
 {
     let bytes = name.bytes();
@@ -96,7 +96,7 @@ pub fn is_long(name: &Name) -> bool
 
 /// Whether two of a table's names are one.
 #[tactic(auto, unfolding(crate::specs::NewTable::names_repeat))]
-fn names_repeat(name: &Name, history: &Name, view: &Name) -> bool
+pub fn names_repeat(name: &Name, history: &Name, view: &Name) -> bool
     ensures { result ≡ new.names_repeat name.now history.now view.now }
 {
     is_named(history, name) || is_named(view, name) || is_named(view, history)
@@ -104,14 +104,15 @@ fn names_repeat(name: &Name, history: &Name, view: &Name) -> bool
 
 /// Whether one of a table's names stands for something already.
 #[tactic(auto, unfolding(crate::specs::NewTable::names_used))]
-fn names_used<D: Definitions>(defs: &D, name: &Name, history: &Name, view: &Name) -> bool
+pub fn names_used<D: Definitions>(defs: &D, name: &Name, history: &Name, view: &Name) -> bool
     ensures { result ≡ new.names_used (D.defs defs.now) name.now history.now view.now }
 {
     defs.is_used(name) || defs.is_used(history) || defs.is_used(view)
 }
 
+/// Whether one of a table's names is too long.
 #[tactic(auto, unfolding(crate::specs::NewTable::names_long))]
-fn names_long(name: &Name, history: &Name, view: &Name) -> bool
+pub fn names_long(name: &Name, history: &Name, view: &Name) -> bool
     ensures { result ≡ new.names_long name.now history.now view.now }
 {
     is_long(name) || is_long(history) || is_long(view)
@@ -125,10 +126,10 @@ fn any_ledger_name(columns: &[ColumnDef]) -> bool
 
 /// Whether a column or a column of the key stands twice, or has a name that the ledger adds.
 #[tactic(auto, unfolding(crate::specs::NewTable::columns_bad))]
-fn columns_bad(columns: &[ColumnDef], key: &[Name]) -> bool
-    ensures { result ≡ new.columns_bad columns.now key.now }
+fn columns_bad(alloc: Global, columns: &[ColumnDef], key: &[Name]) -> Result<bool, Memory>
+    ensures { IfOk result (λ bad. bad ≡ new.columns_bad columns.now key.now) }
 {
-    repeats(columns) || repeats(key) || any_ledger_name(columns)
+    Ok(repeats(alloc, columns)? || repeats(alloc, key)? || any_ledger_name(columns))
 }
 
 #[tactic(auto, unfolding(crate::specs::NewTable::columns_long))]
@@ -207,15 +208,19 @@ fn keyed(alloc: Global, columns: &[ColumnDef], key: &[Name]) -> Result<Items<Col
 /// The checks of a new table with this history and this view.
 #[tactic(auto, unfolding(crate::specs::NewTable::new_check))]
 fn check_new<D: Definitions>(
+    alloc: Global,
     defs: &D,
     c: &CreateTable,
     history: &Name,
     view: &Name,
 ) -> Result<(), Refusal>
-    ensures { result ≡ new.new_check (D.defs defs.now) c.now history.now view.now }
+    ensures { MatchesUnlessOom (new.new_check (D.defs defs.now) c.now history.now view.now) result }
 {
     let (columns, key) = (c.columns.as_slice(), c.key.as_slice());
-    refuse_if(has_bad_name(defs, c, history, view), Refusal::NameConflict)?;
+    refuse_if(
+        has_bad_name(alloc, defs, c, history, view)?,
+        Refusal::NameConflict,
+    )?;
     refuse_if(
         exceeds_limit(defs, c, history, view),
         Refusal::LimitExceeded,
@@ -224,15 +229,23 @@ fn check_new<D: Definitions>(
     refuse_if(key_null(columns, key), Refusal::NullNotAllowed)
 }
 
-fn has_bad_name<D: Definitions>(defs: &D, c: &CreateTable, history: &Name, view: &Name) -> bool
-    ensures { result
+fn has_bad_name<D: Definitions>(
+    alloc: Global,
+    defs: &D,
+    c: &CreateTable,
+    history: &Name,
+    view: &Name,
+) -> Result<bool, Memory>
+    ensures { IfOk result (λ bad. bad
         ≡ ((new.names_repeat c.now.name history.now view.now
         || new.names_used (D.defs defs.now) c.now.name history.now view.now)
-        || new.columns_bad c.now.columns c.now.key) }
+        || new.columns_bad c.now.columns c.now.key)) }
 {
-    names_repeat(&c.name, history, view)
-        || names_used(defs, &c.name, history, view)
-        || columns_bad(c.columns.as_slice(), c.key.as_slice())
+    Ok(
+        names_repeat(&c.name, history, view)
+            || names_used(defs, &c.name, history, view)
+            || columns_bad(alloc, c.columns.as_slice(), c.key.as_slice())?,
+    )
 }
 
 fn exceeds_limit<D: Definitions>(defs: &D, c: &CreateTable, history: &Name, view: &Name) -> bool
@@ -247,7 +260,7 @@ fn exceeds_limit<D: Definitions>(defs: &D, c: &CreateTable, history: &Name, view
 
 /// The definition of a new table beside those that are there, which are fewer than 2^32 - 1: NameConflict, LimitExceeded, NoSuchColumn
 /// and NullNotAllowed, in this order, or NoMemory for want of memory. Its id is one more than their number.
-#[tactic(auto, using(crate::proofs::NewTables::refused_gives, crate::proofs::NewTables::made, crate::proofs::NewTables::few_key))]
+#[tactic(auto, using(crate::proofs::NewTables::made, crate::proofs::NewTables::few_key))]
 pub fn new_table<D: Definitions>(
     alloc: Global,
     defs: &D,
@@ -259,7 +272,7 @@ pub fn new_table<D: Definitions>(
     let id = (defs.count() + 1) as TableId;
     let history = history_name(alloc, c.kind, id, &c.history)?;
     let view = view_name(alloc, &c.name, &c.view)?;
-    check_new(defs, c, &history, &view)?;
+    check_new(alloc, defs, c, &history, &view)?;
     Ok(TableDef {
         id,
         name: c.name.copy()?,

@@ -8,9 +8,9 @@ ghost use Rattle.spec_model.specs.Create as spec;
 
 use crate::creating::is_long;
 use crate::names::{Named, has_name, repeats};
-use crate::rows::{are_declared, refuse_if};
+use crate::rows::{are_live, is_standing, refuse_if};
 use base_types::{Items, Memory, Name};
-use sql_parts::place_of as column_place;
+use sql_parts::{LiveColumns, place_of as column_place};
 use sql_types::{CreateIndex, IndexDef, Part, TableDef};
 use sql_value::{ColumnDef, Refusal};
 use std::alloc::Global;
@@ -30,11 +30,11 @@ impl Named for IndexDef {
 }
 
 /// Whether the index's name is taken in its table, or a column stands twice.
-fn has_taken_name(def: &TableDef, c: &CreateIndex) -> bool
-    ensures { result ≡ (lists.has_name (map (λ i. i.name) def.now.indexes) c.now.name
-        || lists.repeats c.now.columns) }
+fn has_taken_name(alloc: Global, def: &TableDef, c: &CreateIndex) -> Result<bool, Memory>
+    ensures { IfOk result (λ taken. taken ≡ (lists.has_name (map (λ i. i.name) def.now.indexes) c.now.name
+        || lists.repeats c.now.columns)) }
 {
-    has_name(def.indexes.as_slice(), &c.name) || repeats(c.columns.as_slice())
+    Ok(has_name(def.indexes.as_slice(), &c.name) || repeats(alloc, c.columns.as_slice())?)
 }
 
 /// Whether there are too many columns or indexes, or the name is too long.
@@ -81,11 +81,11 @@ pub fn new_index(
         (λ e. e ≢ NoMemory → spec.index_check_in c.now (def.now, part) ≡ Err e) }
 {
     let columns = def.columns.as_slice();
-    refuse_if(has_taken_name(def, c), Refusal::NameConflict)?;
+    refuse_if(has_taken_name(alloc, def, c)?, Refusal::NameConflict)?;
     refuse_if(is_over(def, c), Refusal::LimitExceeded)?;
-    refuse_if(part != Part::Base, Refusal::ReadOnlyTable)?;
+    refuse_if(!is_standing(def, part), Refusal::ReadOnlyTable)?;
     refuse_if(
-        !are_declared(columns, c.columns.as_slice()),
+        !are_live(&LiveColumns::of(def), c.columns.as_slice()),
         Refusal::NoSuchColumn,
     )?;
     Ok(IndexDef {

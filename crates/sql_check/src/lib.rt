@@ -3,15 +3,17 @@
 #![tactic(auto)]
 
 mod accepting;
+mod altering;
 mod creating;
 mod indexing;
 mod names;
 mod rows;
 mod selecting;
 
+pub use altering::{WithColumn, altered_name, altered_table, dropped_table};
 pub use creating::{Definitions, new_table};
 pub use indexing::new_index;
 pub use names::{own_part, part_named};
 pub use rows::{check_stmt, table_of};
 pub use selecting::check_select;
-pub use sql_types::{CreateIndex, CreateTable, IndexDef, Part, RowStmt, Select, TableDef};
+pub use sql_types::{Alter, CreateIndex, CreateTable, IndexDef, Part, RowStmt, Select, TableDef};

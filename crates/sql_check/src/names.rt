@@ -1,14 +1,20 @@
 //! Names in lists, and what a name stands for in a table.
 
-ghost use Rattle.std.specs.Prelude.{◌≡◌, ℕ, List, map};
+ghost use Rattle.std.specs.Prelude.{◌≡◌, ◌||◌, ℕ, List, IfOk, OnOk, map, not};
 ghost use Rattle.std.specs.List.{list_any};
 ghost use Rattle.std.specs.Str.{bytes_eq};
 ghost use Rattle.spec_model.specs.Lists as spec;
 ghost use Rattle.spec_model.specs.Catalog as catalog;
+ghost use Rattle.sql_check.specs.NameSet.{has};
 
-use base_types::Name;
+use base_types::{Memory, Name};
 use sql_types::{Part, TableDef};
 use sql_value::{ColumnDef, Expr};
+use std::alloc::Global;
+use std::collections::BTreeSet;
+
+/// How many names are compared two by two, and not put into a set.
+const FEW_NAMES: usize = 16;
 
 /// What has a name.
 pub trait Named: Drop {
@@ -58,8 +64,44 @@ pub fn has_name<T: Named>(items: &[T], name: &Name) -> bool
     any_named(items, name)
 }
 
+/// Whether some name stands twice. Takes memory where there are many, and time in proportion to n log n.
+pub fn repeats<T: Named>(alloc: Global, items: &[T]) -> Result<bool, Memory>
+    ensures { IfOk result (λ b. b ≡ spec.repeats (map T.named items.now)) }
+{
+    if items.len() > FEW_NAMES {
+        many_repeat(alloc, items)
+    } else {
+        Ok(few_repeat(items))
+    }
+}
+
+/// Adds a name to a set, and says whether it is new there.
+#[tactic(auto, using(crate::proofs::NameSets::added))]
+fn add_name<'a>(names: &mut BTreeSet<&'a str>, name: &'a Name) -> Result<bool, Memory>
+    ensures new { IfOk result (λ new. new ≡ not (has names.old name.now)) }
+    ensures added { OnOk result ((q : List ℕ) → has names.new q ≡ (bytes_eq name.now q || has names.old q)) }
+{
+    Ok(names.insert(name.as_str())?)
+}
+
+/// Whether some name stands twice, by a set of the names behind each.
+#[tactic(auto, using(crate::proofs::NameSets::repeats_before))]
+fn many_repeat<T: Named>(alloc: Global, items: &[T]) -> Result<bool, Memory>
+    ensures { IfOk result (λ b. b ≡ spec.repeats (map T.named items.now)) }
+{
+    let mut behind = BTreeSet::new(alloc);
+    let mut at = items.len();
+    while at > 0 {
+        at -= 1;
+        if !add_name(&mut behind, items[at].name())? {
+            return Ok(true);
+        }
+    }
+    Ok(false)
+}
+
 /// Whether some name stands twice. Each is compared with those behind it.
-pub fn repeats<T: Named>(items: &[T]) -> bool
+fn few_repeat<T: Named>(items: &[T]) -> bool
     ensures { result ≡ spec.repeats (map T.named items.now) }
 {
     for at in 0..items.len() {

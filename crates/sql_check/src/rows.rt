@@ -6,13 +6,14 @@ ghost use Rattle.sql_value.specs.Tree.{tree};
 ghost use Rattle.spec_model.specs.Refusals.{MatchesUnlessOom};
 ghost use Rattle.spec_model.specs.Classes as classes;
 ghost use Rattle.spec_model.specs.Columns as spec_columns;
+ghost use Rattle.spec_model.specs.LiveColumns.{live_columns};
 ghost use Rattle.spec_model.specs.Checks as spec;
 
 use crate::accepting::{accepts_expr, accepts_value, is_condition, names_condition};
 use crate::names::repeats;
 use base_types::{Items, Memory, Name};
 use sql_expr::names_columns;
-use sql_parts::{Columns, column_of, place_of};
+use sql_parts::{Columns, LiveColumns, column_of, place_of};
 use sql_types::{Part, Row, RowStmt, TableDef};
 use sql_value::{ColumnDef, Expr, Refusal, TableKind, Value};
 use std::alloc::Global;
@@ -61,9 +62,17 @@ pub fn check_stmt(alloc: Global, stmt: &RowStmt, def: &TableDef, part: Part) -> 
             table: _,
             sets,
             cond,
-        } => { check_update(def, part, sets.as_slice(), cond) }
+        } => { check_update(alloc, def, part, sets.as_slice(), cond) }
         RowStmt::Delete { table: _, cond } => check_delete(def, part, cond),
     }
+}
+
+/// Whether statements may change what a part of a table stands for: neither a history table, a view or a system table, nor
+/// a table that was dropped.
+pub fn is_standing(def: &TableDef, part: Part) -> bool
+    ensures { result ≡ spec.is_standing def.now part }
+{
+    part == Part::Base && !def.gone
 }
 
 fn names_listed(names: &Option<Items<Name>>) -> &[Name]
@@ -75,43 +84,33 @@ fn names_listed(names: &Option<Items<Name>>) -> &[Name]
     }
 }
 
-/// The columns to which the values of a row go: those listed, or all.
+/// The columns to which the values of a row go: those listed, or all that stand.
 fn listed<'a>(
     alloc: Global,
-    columns: &'a [ColumnDef],
+    live: &LiveColumns<'a>,
     names: &Option<Items<Name>>,
 ) -> Result<Vec<&'a ColumnDef>, Memory>
-    ensures { IfOk result (λ listed. map (λ c. c.now) listed.items ≡ spec.listed columns.now names.now) }
+    ensures { IfOk result (λ listed. map (λ c. c.now) listed.items ≡ spec.listed live.now names.now) }
 {
     match names {
-        Some(names) => columns_named(alloc, columns, names.as_slice()),
-        None => each_column(alloc, columns),
+        Some(names) => columns_named(alloc, live, names.as_slice()),
+        None => live.all(alloc),
     }
 }
 
 fn columns_named<'a>(
     alloc: Global,
-    columns: &'a [ColumnDef],
+    live: &LiveColumns<'a>,
     names: &[Name],
 ) -> Result<Vec<&'a ColumnDef>, Memory>
     ensures { IfOk result (λ listed. map (λ c. c.now) listed.items
-        ≡ filter_map (spec_columns.column_of columns.now) names.now) }
+        ≡ filter_map (spec_columns.column_of live.now) names.now) }
 {
     let mut listed = Vec::new(alloc);
     for name in names {
-        if let Some(column) = column_of(columns, name) {
+        if let Some(column) = live.column_of(name) {
             listed.push(column)?;
         }
-    }
-    Ok(listed)
-}
-
-fn each_column<'a>(alloc: Global, columns: &'a [ColumnDef]) -> Result<Vec<&'a ColumnDef>, Memory>
-    ensures { IfOk result (λ listed. map (λ c. c.now) listed.items ≡ columns.now) }
-{
-    let mut listed = Vec::with_capacity(alloc, columns.len())?;
-    for column in columns {
-        listed.push(column)?;
     }
     Ok(listed)
 }
@@ -151,6 +150,13 @@ pub fn are_declared(columns: &[ColumnDef], names: &[Name]) -> bool
     names.iter().all(|name| place_of(columns, name).is_some())
 }
 
+/// Whether all these columns are among those that stand.
+pub fn are_live(live: &LiveColumns, names: &[Name]) -> bool
+    ensures { result ≡ list_all (spec.is_declared live.now) names.now }
+{
+    names.iter().all(|name| live.has(name))
+}
+
 /// ValueCountMismatch and TypeMismatch of an INSERT.
 #[tactic(auto, unfolding(spec_model::specs::Checks::listed_check))]
 fn check_listed(columns: &[&ColumnDef], rows: &[Row]) -> Result<(), Refusal>
@@ -167,17 +173,14 @@ fn check_listed(columns: &[&ColumnDef], rows: &[Row]) -> Result<(), Refusal>
 #[tactic(auto, unfolding(spec_model::specs::Checks::values_check), using(sql_parts::proofs::Refusals::gives_itself))]
 fn check_values(
     alloc: Global,
-    columns: &[ColumnDef],
+    live: &LiveColumns,
     names: &Option<Items<Name>>,
     rows: &[Row],
 ) -> Result<(), Refusal>
-    ensures { MatchesUnlessOom (spec.values_check columns.now names.now rows.now) result }
+    ensures { MatchesUnlessOom (spec.values_check live.now names.now rows.now) result }
 {
-    refuse_if(
-        !are_declared(columns, names_listed(names)),
-        Refusal::NoSuchColumn,
-    )?;
-    let listed = listed(alloc, columns, names)?;
+    refuse_if(!are_live(live, names_listed(names)), Refusal::NoSuchColumn)?;
+    let listed = listed(alloc, live, names)?;
     check_listed(&listed, rows)
 }
 
@@ -191,20 +194,19 @@ fn check_insert(
 ) -> Result<(), Refusal>
     ensures { MatchesUnlessOom (spec.insert_check def.now part names.now rows.now) result }
 {
-    refuse_if(repeats(names_listed(names)), Refusal::NameConflict)?;
+    refuse_if(repeats(alloc, names_listed(names))?, Refusal::NameConflict)?;
     refuse_if(rows.len() > MOST_ROWS, Refusal::LimitExceeded)?;
-    refuse_if(part != Part::Base, Refusal::ReadOnlyTable)?;
-    check_values(alloc, def.columns.as_slice(), names, rows)
+    refuse_if(!is_standing(def, part), Refusal::ReadOnlyTable)?;
+    check_values(alloc, &LiveColumns::of(def), names, rows)
 }
 
-/// Whether the columns that SET names are declared, and those that its values name are there.
-fn sets_name_columns(def: &TableDef, columns: &Columns, sets: &[(Name, Expr)]) -> bool
-    ensures { result ≡ list_all (λ s. spec.is_declared def.now.columns s.0
+/// Whether the columns that SET names stand, and those that its values name are there.
+fn sets_name_columns(live: &LiveColumns, columns: &Columns, sets: &[(Name, Expr)]) -> bool
+    ensures { result ≡ list_all (λ s. spec.is_declared live.now s.0
         && classes.names_columns columns.now (tree s.1)) sets.now }
 {
-    sets.iter().all(|set| {
-        place_of(def.columns.as_slice(), &set.0).is_some() && names_columns(&set.1, columns)
-    })
+    sets.iter()
+        .all(|set| live.has(&set.0) && names_columns(&set.1, columns))
 }
 
 /// The same, and those that the condition names.
@@ -215,10 +217,10 @@ fn update_names_columns(
     cond: &Option<Expr>,
 ) -> bool
     ensures { result
-        ≡ (list_all (λ s. spec.is_declared def.now.columns s.0 && classes.names_columns columns.now
+        ≡ (list_all (λ s. spec.is_declared (live_columns def.now) s.0 && classes.names_columns columns.now
         (tree s.1)) sets.now && spec.cond_names columns.now cond.now) }
 {
-    sets_name_columns(def, columns, sets) && names_condition(columns, cond)
+    sets_name_columns(&LiveColumns::of(def), columns, sets) && names_condition(columns, cond)
 }
 
 /// Whether the name is that of a column of the primary key.
@@ -280,7 +282,7 @@ fn check_sets(
     sets: &[(Name, Expr)],
     cond: &Option<Expr>,
 ) -> Result<(), Refusal>
-    ensures { result ≡ spec.sets_check def.now.columns columns.now sets.now cond.now }
+    ensures { result ≡ spec.sets_check (live_columns def.now) def.now.columns columns.now sets.now cond.now }
 {
     refuse_if(
         !update_names_columns(def, columns, sets, cond),
@@ -298,15 +300,16 @@ fn check_sets(
 
 #[tactic(auto, unfolding(spec_model::specs::Checks::update_check))]
 fn check_update(
+    alloc: Global,
     def: &TableDef,
     part: Part,
     sets: &[(Name, Expr)],
     cond: &Option<Expr>,
 ) -> Result<(), Refusal>
-    ensures { result ≡ spec.update_check def.now part sets.now cond.now }
+    ensures { MatchesUnlessOom (spec.update_check def.now part sets.now cond.now) result }
 {
-    refuse_if(repeats(sets), Refusal::NameConflict)?;
-    refuse_if(part != Part::Base, Refusal::ReadOnlyTable)?;
+    refuse_if(repeats(alloc, sets)?, Refusal::NameConflict)?;
+    refuse_if(!is_standing(def, part), Refusal::ReadOnlyTable)?;
     refuse_if(def.kind == TableKind::AppendOnly, Refusal::AppendOnlyTable)?;
     check_sets(def, &Columns::of(def, Part::Base), sets, cond)
 }
@@ -315,7 +318,7 @@ fn check_update(
 fn check_delete(def: &TableDef, part: Part, cond: &Option<Expr>) -> Result<(), Refusal>
     ensures { result ≡ spec.delete_check def.now part cond.now }
 {
-    refuse_if(part != Part::Base, Refusal::ReadOnlyTable)?;
+    refuse_if(!is_standing(def, part), Refusal::ReadOnlyTable)?;
     refuse_if(def.kind == TableKind::AppendOnly, Refusal::AppendOnlyTable)?;
     let columns = Columns::of(def, Part::Base);
     refuse_if(!names_condition(&columns, cond), Refusal::NoSuchColumn)?;

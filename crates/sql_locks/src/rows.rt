@@ -5,6 +5,7 @@ ghost use Rattle.spec_model.specs.Locks as spec;
 
 use crate::inserted::key_requests;
 use base_types::Memory;
+use sql_change::WrittenNames;
 use sql_parts::{KeyedTable, key_fixed};
 use sql_types::{Item, Key, LockRequest, Mode, RowStmt};
 use std::alloc::Global;
@@ -57,12 +58,10 @@ pub fn row_requests(
     ensures { IfOk result (λ requests. requests.items ≡ spec.row_requests table.now stmt.now) }
 {
     match stmt {
-        RowStmt::Insert { columns, rows, .. } => key_requests(
-            alloc,
-            table,
-            columns,
-            rows.as_slice(),
-        ),
+        RowStmt::Insert { columns, rows, .. } => {
+            let names = WrittenNames::of(alloc, table.def(), columns)?;
+            key_requests(alloc, table, names.get(), rows.as_slice())
+        }
         RowStmt::Update { cond, .. } | RowStmt::Delete { cond, .. } => {
             by_key_or_whole(alloc, Mode::IX, Mode::X, key_fixed(alloc, table, cond)?)
         }

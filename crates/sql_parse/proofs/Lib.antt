@@ -1,1 +1,2 @@
+mod NameSets
 mod Pages

@@ -1,1 +1,2 @@
+pub mod NameSet
 pub use Rattle.spec_syntax.specs.Text

@@ -1,6 +1,8 @@
 //! CREATE TABLE and CREATE INDEX: a function for each rule.
 
-ghost use Rattle.std.specs.Prelude.{◌≡◌, map, IfOk};
+ghost use Rattle.std.specs.Prelude.{◌≡◌, ◌||◌, ℕ, List, map, IfOk, OnOk};
+ghost use Rattle.std.specs.Str.{bytes_eq};
+ghost use Rattle.sql_parse.specs.NameSet.{has};
 ghost use Rattle.spec_syntax.specs.Input.{ParsesUnlessOom, ConvertsUnlessOom};
 ghost use Rattle.spec_syntax.specs.Table as spec;
 
@@ -9,22 +11,39 @@ use crate::cursor::Cursor;
 use crate::ledger::ledger_part;
 use crate::name::name;
 use crate::row::name_list;
-use base_types::{Items, Memory, Name, first_of};
+use base_types::{Items, Memory, Name};
 use spec_syntax::{Column, Ledger, ParseErr, Tag};
 use sql_types::{CreateIndex, CreateTable};
 use sql_value::ColumnDef;
 use std::alloc::Global;
+use std::collections::BTreeSet;
 
-fn is_in(mut names: &[Name], name: &Name) -> bool
-    ensures { result ≡ spec.is_in names.entry.now name.now }
+#[tactic(auto, using(crate::proofs::NameSets::added))]
+fn add_name<'a>(names: &mut BTreeSet<&'a str>, name: &'a Name) -> Result<(), Memory>
+    ensures { OnOk result ((q : List ℕ) → has names.new q ≡ (bytes_eq name.now q || has names.old q)) }
 {
-    while let Some((first, rest)) = first_of(names) {
-        if first == name {
-            return true;
-        }
-        names = rest;
+    names.insert(name.as_str())?;
+    Ok(())
+}
+
+/// The names in an ordered set.
+#[tactic(auto, using(crate::proofs::NameSets::in_more))]
+fn set_of(alloc: Global, names: &[Name]) -> Result<BTreeSet<&str>, Memory>
+    ensures { IfOk result (λ set. (q : List ℕ) → has set q ≡ spec.is_in names.now q) }
+{
+    let mut set = BTreeSet::new(alloc);
+    let mut at = names.len();
+    while at > 0 {
+        at -= 1;
+        add_name(&mut set, &names[at])?;
     }
-    false
+    Ok(set)
+}
+
+fn is_in(set: &BTreeSet<&str>, name: &Name) -> bool
+    ensures { result ≡ has set.now name.now }
+{
+    set.contains(name.as_str())
 }
 
 /// What is written, else whether the column is outside the key.
@@ -37,8 +56,9 @@ fn nullable_of(written: Option<bool>, in_key: bool) -> bool
     }
 }
 
-fn column_def(key: &[Name], column: Column) -> ColumnDef
-    ensures { result ≡ spec.column_def key.now column }
+fn column_def(key: &BTreeSet<&str>, column: Column) -> ColumnDef
+    ensures { (names : List (List ℕ)) → ((q : List ℕ) → has key.now q ≡ spec.is_in names q)
+        → result ≡ spec.column_def names column }
 {
     let Column { name, ty, nullable } = column;
     let nullable = nullable_of(nullable, is_in(key, &name));
@@ -50,6 +70,8 @@ fn column_def(key: &[Name], column: Column) -> ColumnDef
     }
 }
 
+/// The columns, each with what it says of NULL, or whether it is outside the key. The key's names are put into a
+/// set.
 fn column_defs(
     alloc: Global,
     key: &[Name],
@@ -57,9 +79,10 @@ fn column_defs(
 ) -> Result<Items<ColumnDef>, Memory>
     ensures { IfOk result (λ defs. defs ≡ map (spec.column_def key.now) columns) }
 {
+    let names = set_of(alloc, key)?;
     let mut defs = Items::new(alloc);
     for column in columns.into_vec() {
-        defs.push(column_def(key, column))?;
+        defs.push(column_def(&names, column))?;
     }
     Ok(defs)
 }

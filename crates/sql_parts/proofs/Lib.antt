@@ -1,4 +1,5 @@
 pub mod AddedColumns
+pub mod Dropped
 pub mod Filled
 pub mod Fixed
 pub mod InTurn

@@ -5,7 +5,7 @@ use Rattle.std.specs.List.{position_from}
 use Rattle.std.specs.Prelude.{option_map, option_and_then, position}
 use Rattle.spec_model.specs.Lists.{or_else}
 
-abbrev first : {A : Type 0} → (A → Bool) → List A → Option ℕ
+abbrev pub first : {A : Type 0} → (A → Bool) → List A → Option ℕ
 first test [] = None
 first test (x ∷ xs) = cond (test x) (Some 0) (option_map suc (first test xs))
 
@@ -24,7 +24,7 @@ as_it_is : (r : Option ℕ) → option_map (λ n. 0 + n) r ≡ r
 as_it_is None = refl
 as_it_is (Some n) = ap Some (omega arith)
 
-is_first : {A : Type 0} (test : A → Bool) (xs : List A) → position test xs ≡ first test xs
+pub is_first : {A : Type 0} (test : A → Bool) (xs : List A) → position test xs ≡ first test xs
 is_first test xs = position_from-zero test xs ∙ from_first test 0 xs ∙ as_it_is (first test xs)
 
 -- ---- in both lists
@@ -47,7 +47,7 @@ position_both test xs ys =
 
 -- ---- the item itself
 
-abbrev found : {A : Type 0} → (A → Bool) → List A → Option A
+abbrev pub found : {A : Type 0} → (A → Bool) → List A → Option A
 found test [] = None
 found test (x ∷ xs) = cond (test x) (Some x) (found test xs)
 
@@ -68,7 +68,7 @@ found_both : {A : Type 0} (test : A → Bool) (xs ys : List A) → found test (x
 found_both test [] ys = refl
 found_both test (x ∷ xs) ys = ap (cond (test x) (Some x)) (found_both test xs ys) ∙ found_more (test x) x (found test xs) (found test ys)
 
-at_first : {A : Type 0} (test : A → Bool) (xs : List A) → option_and_then (slice_get xs) (position test xs) ≡ found test xs
+pub at_first : {A : Type 0} (test : A → Bool) (xs : List A) → option_and_then (slice_get xs) (position test xs) ≡ found test xs
 at_first test xs = ap (option_and_then (slice_get xs)) (is_first test xs) ∙ is_found test xs
 
 pub item_both : {A : Type 0} (test : A → Bool) (xs ys : List A)

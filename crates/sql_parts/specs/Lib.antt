@@ -1,3 +1,4 @@
+pub mod Dropped
 pub mod Fixed
 pub mod InTurn
 pub mod Places

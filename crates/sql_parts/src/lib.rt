@@ -3,17 +3,20 @@
 #![tactic(auto)]
 
 mod columns;
+mod copying;
 mod fixing;
 mod found;
 mod keyed;
 mod keys;
 mod laws;
 mod live;
+mod live_columns;
 mod order;
 mod rows;
 mod values;
 
 pub use columns::{Columns, column_of, place_of, shown};
+pub use copying::{copy_columns, copy_def, copy_indexes};
 pub use fixing::key_fixed;
 pub use found::LiveVersions;
 pub use keyed::KeyedTable;
@@ -23,6 +26,7 @@ pub use keys::{
 };
 pub use laws::sorted_lists_rise_stably;
 pub use live::live_by_key;
+pub use live_columns::{LiveColumns, dropped_flags, is_dropped};
 pub use rows::{base_row, part_rows};
 pub use sql_types::{Key, Part, Row, TableDef, Version};
 pub use values::{Valued, copy_or_null, number, row_of, stored_row};

@@ -9,11 +9,12 @@ use Rattle.sql_value.specs.declared.refusal.Refusal.TheVariants.{NoSuchSavepoint
 use Rattle.sql_types.specs.declared.statement.Stmt.{Stmt}
 use Rattle.sql_types.specs.declared.reply.Reply.{Reply}
 use Rattle.sql_types.specs.declared.reply.Reply.TheVariants as r
+use Rattle.sql_types.specs.declared.table.TableDef.{TableDef}
 use Rattle.sql_types.specs.declared.version.Table.{Table}
 use Rattle.spec_model.specs.Limits.{max_savepoints}
 use Rattle.spec_model.specs.Catalog.{Defs, Tables, defs_of, with_versions}
 use Rattle.spec_model.specs.Effect.{Effect, effect, redefined}
-use Rattle.spec_model.specs.ChangeSets.{TableChange, changed_from, Definition, as_before, new, in_place, defined, change_set}
+use Rattle.spec_model.specs.ChangeSets.{TableChange, changed_from, Definition, as_before, new, in_place, altered, defined, change_set}
 use Rattle.spec_model.specs.Reach.{creates}
 use Rattle.spec_model.specs.Script.{Step, by_effect, rolled_back, saves, rolls_back_to}
 use Rattle.spec_model.specs.Undo.{undone, versions_undone}
@@ -31,14 +32,15 @@ use Rattle.sql_reference.proofs.Restored.{creates_alone}
 
 -- ---- as many tables as before, or more
 
+same_length : (def : TableDef) (U : Tables) → length (redefined def U) ≡ length U
+same_length def [] = refl
+same_length def (t ∷ ts) = omega (arith, same_length def ts)
+
 never_shorter : (d : Definition) (U : Tables) → length U ≤ length (defined d U)
 never_shorter as_before U = omega arith
 never_shorter (new def) U = (let t : Table = record { def = def; versions = [] } in omega (arith, length-append U (t ∷ [])))
 never_shorter (in_place def) U = omega (arith, same_length def U)
-  where
-    same_length : (def : _) (U : Tables) → length (redefined def U) ≡ length U
-    same_length def [] = refl
-    same_length def (t ∷ ts) = omega (arith, same_length def ts)
+never_shorter (altered def) U = omega (arith, same_length def U)
 
 effect_length : (T : Tables) (tx seq : ℕ) (stmt : Stmt) → length T ≤ length (effect T tx seq stmt).tables
 effect_length T tx seq stmt =

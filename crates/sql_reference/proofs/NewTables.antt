@@ -1,4 +1,4 @@
--- What CREATE TABLE and CREATE INDEX add.
+-- What CREATE TABLE and CREATE INDEX add, and ALTER TABLE and DROP TABLE change.
 use Rattle.std.proofs.Common.{◌≡◌, ◌≢◌, ◌<◌, ◌≤◌, ◌+◌, ◌-◌, ℕ, suc, zero, refl, sym, ap, subst, ◌∙◌, Bool, false, true, List, [], ◌∷◌, ◌++◌, map, length, get_or, Option, Some, None, Ok, ◌⊎◌, inl, inr, arith}
 use Rattle.std.proofs.lemmas.Bool.{eq-eqb, ne_eqb, eqb-true}
 use Rattle.std.proofs.lemmas.List.{length-map}
@@ -14,11 +14,12 @@ use Rattle.sql_types.specs.declared.version.Table.{Table}
 use Rattle.sql_types.specs.declared.reply.Reply.TheVariants.{Made}
 use Rattle.spec_model.specs.Refusals.{Checked, or_refused}
 use Rattle.spec_model.specs.Agreement.{IdsFrom}
+use Rattle.spec_model.specs.Alter.{Altered}
 use Rattle.spec_model.specs.Checks.{refused_if}
 use Rattle.spec_model.specs.Catalog.{Defs, NamedPart, Tables, defs_of, changed_table, part_named, or_in, find_part}
 use Rattle.spec_model.specs.Changes.{Change, changed_all}
 use Rattle.spec_model.specs.Create.{index_def, index_check_in, index_check, with_index}
-use Rattle.spec_model.specs.Effect.{Effect, with_system_rows, table_start, column_starts, table_effect, with_def, redefined, index_starts, index_effect}
+use Rattle.spec_model.specs.Effect.{Effect, with_system_rows, table_start, column_starts, table_effect, with_def, redefined, index_starts, index_effect, altered_effect}
 use Rattle.spec_model.specs.Lists.{numbered}
 use Rattle.spec_model.specs.Rows.{Row}
 use Rattle.spec_model.specs.ChangeSets.{in_table, changed_from}
@@ -207,3 +208,7 @@ module _ (T : Tables) (tx seq next : ℕ) where
       ∙ ap (λ (k : ℕ). changed_at k (indexed index) U) (sym f)
       ∙ sym v)
       refl
+
+  pub altered_made : (a : Altered) (U V : Tables) → U ≡ with_system_rows tx seq a.first a.second T → V ≡ redefined a.def U → next ≡ seq + length a.first + length a.second
+      → altered_effect T tx seq (Ok a) ≡ record { tables = V; seq = next; reply = Made }
+  altered_made a U V u v n = same_made _ _ _ _ (ap (redefined a.def) (sym u) ∙ sym v) (sym n)

@@ -1,4 +1,4 @@
--- A CREATE in a script of its own, and how the tables before it are given back.
+-- A statement that changes definitions, in a script of its own, and how the tables before it are given back.
 use Rattle.std.proofs.Common.{◌≡◌, ◌≤◌, ℕ, ◌+◌, refl, sym, ap, ◌∙◌, Bool, true, false, List, [], ◌∷◌, ◌++◌, map, length, Option, Some, None, Ok, Err, arith}
 use Rattle.std.proofs.lemmas.List.{map-append, length-map}
 use Rattle.std.specs.Prelude.{◌==◌, if◌then◌else◌}
@@ -11,14 +11,15 @@ use Rattle.sql_types.specs.declared.table.IndexDef.{IndexDef}
 use Rattle.sql_types.specs.declared.version.Table.{Table}
 use Rattle.sql_types.specs.declared.version.TypedValue.{TypedValue}
 use Rattle.sql_types.specs.declared.version.Version.{Version}
-use Rattle.spec_model.specs.Refusals.{Checked}
+use Rattle.spec_model.specs.Refusals.{Checked, and_then}
+use Rattle.spec_model.specs.Alter.{WithColumn, alter_check, altered_table, drop_check, gone_table, next_change}
 use Rattle.spec_model.specs.Rows.{Row, stored_row}
 use Rattle.spec_model.specs.Changes.{Starts}
-use Rattle.spec_model.specs.Catalog.{Defs, Tables, defs_of, with_versions}
+use Rattle.spec_model.specs.Catalog.{Defs, Tables, defs_of, versions_of, with_versions}
 use Rattle.spec_model.specs.Create.{create_check, index_check}
-use Rattle.spec_model.specs.SystemTables.{tables_id, columns_id, tables_columns, columns_columns, table_row, column_rows, index_rows}
+use Rattle.spec_model.specs.SystemTables.{tables_id, columns_id, tables_columns, columns_columns, table_row, column_rows, index_rows, changed_table_row, changed_column_row}
 use Rattle.spec_model.specs.Effect.{Effect, effect, table_start, column_starts, with_def, redefined}
-use Rattle.spec_model.specs.ChangeSets.{TableChange, in_table, changed_from, Definition, as_before, new, in_place, defined, create_table_change_set, create_index_change_set, change_set}
+use Rattle.spec_model.specs.ChangeSets.{TableChange, in_table, changed_from, Definition, as_before, new, in_place, altered, defined, create_table_change_set, create_index_change_set, altered_change_set, change_set}
 use Rattle.spec_model.specs.Reach.{creates}
 use Rattle.spec_model.specs.Script.{by_effect}
 use Rattle.spec_model.specs.Undo.{versions_undone, undone}
@@ -97,8 +98,9 @@ module _ (tx n : ℕ) where
       let t : Table = record { def = def; versions = [] } in
       ap (with_defs ds) (undone_append U (t ∷ [])) ∙ without_more ds (undone tx n U) (undone tx n (t ∷ [])) (omega (arith, le, undone_length U))
   defs_back (in_place def) ds U le = only_versions ds (undone tx n (redefined def U)) (undone tx n U) (redefined_versions def U)
+  defs_back (altered def) ds U le = only_versions ds (undone tx n (redefined def U)) (undone tx n U) (redefined_versions def U)
 
-  -- ---- a CREATE only starts
+  -- ---- it only starts
 
   start_undoes : (id : ℕ) (values : List (Option TypedValue)) (T : Tables) → UndoesAt tx n T (id, Starts values)
   start_undoes id values [] = tt
@@ -117,12 +119,24 @@ module _ (tx n : ℕ) where
   index_undoes T (Ok x) = starts_undo columns_id columns_columns (index_rows x.0.id (length x.0.indexes + 1) x.1) T
   index_undoes T (Err e) = tt
 
+  alter_undoes : (T : Tables) (change : WithColumn → ℕ) (m : Checked WithColumn)
+      → AllByRecursion (UndoesAt tx n T) (altered_change_set (and_then m (λ x. Ok (altered_table (change x) x)))).changes
+  alter_undoes T change (Ok x) = (start_undoes columns_id (stored_row columns_columns (changed_column_row (change x) x.0 x.1)) T, tt)
+  alter_undoes T change (Err e) = tt
+
+  drop_undoes : (T : Tables) (change : TableDef → ℕ) (m : Checked TableDef)
+      → AllByRecursion (UndoesAt tx n T) (altered_change_set (and_then m (λ def. Ok (gone_table (change def) def)))).changes
+  drop_undoes T change (Ok def) = (start_undoes tables_id (stored_row tables_columns (changed_table_row (change def) def)) T, tt)
+  drop_undoes T change (Err e) = tt
+
   create_undoes : (T : Tables) (stmt : Stmt) → creates stmt ≡ true → AllByRecursion (UndoesAt tx n T) (change_set T stmt).changes
   unfolding change_set
   create_undoes T (s.Create c) e = table_undoes T (create_check (defs_of T) c)
   create_undoes T (s.Index c) e = index_undoes T (index_check (defs_of T) c)
-  create_undoes T (s.Alter altered) e = cc
-  create_undoes T (s.Drop name) e = cc
+  create_undoes T (s.Alter a) e =
+      alter_undoes T (λ x. next_change x.0.id (versions_of T tables_id) (versions_of T columns_id)) (alter_check (defs_of T) a)
+  create_undoes T (s.Drop name) e =
+      drop_undoes T (λ def. next_change def.id (versions_of T tables_id) (versions_of T columns_id)) (drop_check (defs_of T) name)
   create_undoes T (s.Change stmt) e = cc
   create_undoes T (s.Select q) e = cc
   create_undoes T s.Begin e = cc

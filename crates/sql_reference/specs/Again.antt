@@ -4,13 +4,12 @@ use Rattle.std.specs.Prelude.{ℕ, ◌≡◌, ◌≢◌, List, map, take, slice_
 use Rattle.sql_types.specs.declared.reply.Reply.{Reply}
 use Rattle.spec_model.specs.Journals.{Line}
 use Rattle.spec_model.specs.Replies.{reply_text}
-use Rattle.spec_model.specs.Script.{ScriptEnd, script_from}
-use Rattle.sql_parse.specs.Text.{statement_of}
+use Rattle.spec_model.specs.Script.{Reading, ScriptEnd, script_from}
 use Rattle.sql_reference.specs.Machine.{Running}
 
 -- what these statements come to in a script that is begun
-abbrev pub goes_on : Running → List Line → ScriptEnd
-goes_on x lines = script_from statement_of x.explicit x.tx x.state (map (λ l. l.0) lines)
+abbrev pub goes_on : Reading → Running → List Line → ScriptEnd
+goes_on reads x lines = script_from reads x.explicit x.tx x.state (map (λ l. l.0) lines)
 
 -- the statement is the first whose kept text isn't that of its reply
 pub record IsFirst (statement : ℕ) (lines : List Line) (replies : List Reply) : Type 0 where

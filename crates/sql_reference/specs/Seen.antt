@@ -19,12 +19,12 @@ with_defs [] tables = []
 with_defs (def ∷ defs) [] = []
 with_defs (def ∷ defs) (t ∷ ts) = with_def def t ∷ with_defs defs ts
 
--- with the definitions from before the first CREATE, where there was one
+-- with the definitions from before the first statement that changed some, where there was one
 abbrev pub restored : Option Defs → Tables → Tables
 restored None tables = tables
 restored (Some defs) tables = with_defs defs tables
 
--- what is to be restored after a CREATE, before which the definitions were these
+-- what is to be restored after a statement that changes definitions, before which they were these
 abbrev pub first_defs : Option Defs → Defs → Option Defs
 first_defs None now = Some now
 first_defs (Some defs) now = Some defs

@@ -8,6 +8,7 @@ use Rattle.sql_types.specs.declared.statement.RowStmt.{RowStmt}
 use Rattle.sql_types.specs.declared.statement.Select.{Select}
 use Rattle.spec_model.specs.Refusals.{Checked, and_then}
 use Rattle.spec_model.specs.Rows.{Row}
+use Rattle.spec_model.specs.Alter.{Altered}
 use Rattle.spec_model.specs.Catalog.{Defs, Tables, defs_of, versions_of}
 use Rattle.spec_model.specs.Changes.{Changes, row_changes}
 use Rattle.spec_model.specs.Checks.{row_statement_check}
@@ -23,6 +24,7 @@ use Rattle.sql_reference.specs.declared.effect.StatementResult.{StatementResult}
 use Rattle.sql_reference.specs.Machine.{moved}
 use Rattle.sql_reference.specs.Order.{InOrder}
 use Rattle.sql_reference.specs.Seen.{HasPlaces, running_of, state_of, machine_of}
+use Rattle.sql_reference.specs.declared.altering.AlteredTable.{AlteredTable}
 use Rattle.sql_reference.specs.declared.changing.PlannedChanges.{PlannedChanges}
 
 -- the effect that is meant, with the tables after it; or a refusal that leaves the tables; or that there is
@@ -46,6 +48,14 @@ changes_worked_out tables stmt =
 abbrev pub PlanMatchesUnlessOom : Checked (ℕ × Changes) → Result PlannedChanges Refusal → Type 0
 PlanMatchesUnlessOom meant (Ok p) = meant ≡ Ok (p.id, (p.changes, p.count))
 PlanMatchesUnlessOom meant (Err e) = e ≢ NoMemory → meant ≡ Err e
+
+-- what ALTER TABLE or DROP TABLE makes
+abbrev pub altered_of : AlteredTable → Altered
+altered_of a = record { def = a.def; first = a.first; second = a.second }
+
+abbrev pub AlteredMatchesUnlessOom : Checked Altered → Result AlteredTable Refusal → Type 0
+AlteredMatchesUnlessOom meant (Ok a) = meant ≡ Ok (altered_of a)
+AlteredMatchesUnlessOom meant (Err e) = e ≢ NoMemory → meant ≡ Err e
 
 -- the rows that a SELECT shows
 abbrev pub rows_shown : Tables → Select → Checked (List Row)

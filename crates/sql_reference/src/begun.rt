@@ -42,7 +42,7 @@ pub(crate) struct RunningScript {
     pub seq: u64,
     /// The newest first.
     pub saved: Items<Savepoint>,
-    /// All definitions from before the first CREATE, where there was one.
+    /// All definitions from before the first statement that changed some, where there was one.
     pub defs: Option<Items<TableDef>>,
 }
 
@@ -115,10 +115,12 @@ impl RunningScript {
             (spec.in_transaction self.old.tx (state_of tables.old.items self.old) stmt.now) result }
     {
         match stmt {
-            Stmt::Create(_) | Stmt::Index(_) | Stmt::Digest | Stmt::Image => Err(
-                Refusal::ForbiddenInTransaction,
-            ),
-            Stmt::Alter(_) | Stmt::Drop(_) => Err(Refusal::SyntaxError),
+            Stmt::Create(_)
+            | Stmt::Index(_)
+            | Stmt::Alter(_)
+            | Stmt::Drop(_)
+            | Stmt::Digest
+            | Stmt::Image => Err(Refusal::ForbiddenInTransaction),
             Stmt::Change(_) | Stmt::Select(_) => self.change(alloc, tables, stmt),
             Stmt::Begin => Err(Refusal::AlreadyInTransaction),
             Stmt::Save(name) => self.save(name),
@@ -142,8 +144,9 @@ impl RunningScript {
             (spec.alone self.old.tx (state_of tables.old.items self.old) stmt.now) result }
     {
         match stmt {
-            Stmt::Create(_) | Stmt::Index(_) => self.create(alloc, tables, stmt),
-            Stmt::Alter(_) | Stmt::Drop(_) => Err(Refusal::SyntaxError),
+            Stmt::Create(_) | Stmt::Index(_) | Stmt::Alter(_) | Stmt::Drop(_) => self.define(
+                alloc, tables, stmt,
+            ),
             Stmt::Change(_) | Stmt::Select(_) => self.change(alloc, tables, stmt),
             Stmt::Begin | Stmt::Digest | Stmt::Image => Ok(Reply::NoOutput),
             Stmt::Commit | Stmt::Save(_) | Stmt::Rollback(_) => Err(Refusal::NoTransaction),
@@ -167,9 +170,9 @@ impl RunningScript {
         self.carry_out(alloc, tables, stmt)
     }
 
-    /// CREATE TABLE and CREATE INDEX.
+    /// CREATE TABLE, CREATE INDEX, ALTER TABLE and DROP TABLE, which change definitions.
     #[tactic(auto, using(crate::proofs::Answered::create_steps, crate::proofs::Ready::ready))]
-    fn create(
+    fn define(
         &mut self,
         alloc: Global,
         tables: &mut Vec<Table>,
@@ -182,7 +185,7 @@ impl RunningScript {
         ensures { StepsUnlessOom tables.old.items self.old tables.new.items self.new
             (carried self.old.tx (state_of tables.old.items self.old) stmt.now) result }
     {
-        self.carry_out_create(alloc, tables, stmt)
+        self.carry_out_definition(alloc, tables, stmt)
     }
 
     /// The effect of a table statement.
@@ -201,8 +204,8 @@ impl RunningScript {
         Ok(done.reply)
     }
 
-    /// The effect of CREATE. The definitions from before the first one are kept.
-    fn carry_out_create(
+    /// The effect of a statement that changes definitions. Those from before the first one are kept.
+    fn carry_out_definition(
         &mut self,
         alloc: Global,
         tables: &mut Vec<Table>,

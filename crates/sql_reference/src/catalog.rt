@@ -4,9 +4,9 @@ ghost use Rattle.std.specs.Prelude.{ℕ, ◌≡◌, ◌<◌, IfSome, option_map}
 ghost use Rattle.spec_model.specs.Catalog as spec;
 ghost use Rattle.sql_reference.specs.Ids.{IdsRise};
 
-use base_types::Name;
+use base_types::{Name, TableId};
 use sql_check::{Definitions, part_named};
-use sql_types::{Part, Table};
+use sql_types::{Part, Table, Version};
 
 /// The table, and the part of it, that a name stands for.
 #[tactic(auto, unfolding(spec_model::specs::Catalog::find_part))]
@@ -23,6 +23,17 @@ pub(crate) fn find<'a>(tables: &'a [Table], name: &Name) -> Option<(&'a Table, P
             Some(part) => Some((table, part)),
             None => find(rest, name),
         },
+    }
+}
+
+/// The versions of the table with this id.
+pub(crate) fn versions_of(tables: &[Table], id: TableId) -> &[Version]
+    ensures { result.now ≡ spec.versions_of tables.now id }
+{
+    match tables {
+        [] => &[],
+        [table, ..] if table.def.id == id => table.versions.as_slice(),
+        [_, rest @ ..] => versions_of(rest, id),
     }
 }
 

@@ -23,10 +23,10 @@ use sql_value::Refusal;
 use std::alloc::Global;
 
 /// The id of the system's table of tables.
-const TABLES: TableId = 1;
+pub(crate) const TABLES: TableId = 1;
 
 /// The id of the system's table of columns.
-const COLUMNS: TableId = 2;
+pub(crate) const COLUMNS: TableId = 2;
 
 /// A new index of the table with this id, and the starts of its rows in the table of columns.
 #[derive(Drop)]
@@ -38,7 +38,7 @@ struct NewIndex {
 
 /// Adds rows to the table of tables and, with the numbers behind theirs, to the table of columns. Gives the
 /// number of the next event.
-fn add_system_rows(
+pub(crate) fn add_system_rows(
     alloc: Global,
     tables: &mut Vec<Table>,
     tx: TxId,

@@ -4,6 +4,7 @@ ghost use Rattle.std.specs.Prelude.{◌≡◌, ◌+◌, ◌<◌, ◌^◌, IfOk};
 ghost use Rattle.spec_model.specs.Effect as spec;
 ghost use Rattle.sql_reference.specs.StatementResult.{MatchesEffectUnlessOom, IsReady};
 
+use crate::altering::{alter_table, drop_table};
 use crate::changing::change_rows;
 use crate::creating::{create_index, create_table};
 use crate::showing::show;
@@ -49,6 +50,8 @@ pub(crate) fn effect(
     match stmt {
         Stmt::Create(c) => create_table(alloc, tables, tx, seq, c),
         Stmt::Index(c) => create_index(alloc, tables, tx, seq, c),
+        Stmt::Alter(alter) => alter_table(alloc, tables, tx, seq, alter),
+        Stmt::Drop(name) => drop_table(alloc, tables, tx, seq, name),
         Stmt::Change(stmt) => change_rows(alloc, tables, tx, seq, stmt),
         Stmt::Select(q) => Ok(StatementResult {
             seq,

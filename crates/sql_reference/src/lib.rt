@@ -2,6 +2,7 @@
 #![tactic(auto)]
 
 mod again;
+mod altering;
 mod begun;
 mod catalog;
 mod changing;

@@ -4,7 +4,7 @@ ghost use Rattle.std.specs.Prelude.{ℕ, ◌≡◌, ◌≢◌, IfOk, OnOk, Some,
 ghost use Rattle.spec_model.specs.Events.{all_events as events_left};
 ghost use Rattle.spec_model.specs.Replies.{reply_text as text_of};
 ghost use Rattle.spec_model.specs.SystemTables as system;
-ghost use Rattle.sql_parse.specs.Text.{statement_of};
+ghost use Rattle.sql_parse.specs.Text.{reading_of};
 ghost use Rattle.sql_reference.specs.Machine.{Running, at_rest, begun, step_of, moved};
 ghost use Rattle.sql_reference.specs.Order.{IsNew, InOrder};
 
@@ -12,7 +12,7 @@ use crate::begun::RunningScript;
 use base_types::{Items, Memory, Text, TxId};
 use format_reply::reply_text;
 use sql_apply::all_events;
-use sql_parse::{ParseErr, parse};
+use sql_parse::{ParseErr, parse_in};
 use sql_system::first_tables;
 use sql_types::{Event, Reply, Stmt, Table};
 use sql_value::Refusal;
@@ -113,35 +113,36 @@ impl SerialMachine {
         Ok(reply)
     }
 
-    /// Takes the script's next text; SyntaxError where it is no statement.
+    /// Takes the script's next text; SyntaxError where it is no statement in journals of the version.
     #[tactic(auto, using(crate::proofs::Moves::stays))]
-    fn reply_to(&mut self, alloc: Global, text: &str) -> Result<Reply, Memory>
+    fn reply_to(&mut self, alloc: Global, version: u8, text: &str) -> Result<Reply, Memory>
         requires begun { self.old.script ≢ None }
         requires order { InOrder self.old }
         ensures reply { (x : Running) → self.old.script ≡ Some x
-            → IfOk result (λ reply. reply ≡ (step_of x (statement_of text.now)).1) }
+            → IfOk result (λ reply. reply ≡ (step_of x (reading_of version text.now)).1) }
         ensures script { (x : Running) → self.old.script ≡ Some x
-            → OnOk result (self.new ≡ moved self.old x (step_of x (statement_of text.now)).0) }
+            → OnOk result (self.new ≡ moved self.old x (step_of x (reading_of version text.now)).0) }
         ensures order { OnOk result (InOrder self.new) }
     {
-        match parse(alloc, text) {
+        match parse_in(alloc, text, version) {
             Ok(stmt) => self.answer(alloc, &stmt),
             Err(ParseErr::Syntax) => Ok(Reply::Refused(Refusal::SyntaxError)),
             Err(ParseErr::Memory) => Err(Memory),
         }
     }
 
-    /// Takes the script's next text and answers the text of its reply; SyntaxError where it is no statement.
-    pub fn execute(&mut self, alloc: Global, text: &str) -> Result<Text, Memory>
+    /// Takes the script's next text and answers the text of its reply; SyntaxError where it is no statement in
+    /// journals of the version.
+    pub fn execute(&mut self, alloc: Global, version: u8, text: &str) -> Result<Text, Memory>
         requires begun { self.old.script ≢ None }
         requires order { InOrder self.old }
         ensures reply { (x : Running) → self.old.script ≡ Some x
-            → IfOk result (λ reply. reply ≡ text_of (step_of x (statement_of text.now)).1) }
+            → IfOk result (λ reply. reply ≡ text_of (step_of x (reading_of version text.now)).1) }
         ensures script { (x : Running) → self.old.script ≡ Some x
-            → OnOk result (self.new ≡ moved self.old x (step_of x (statement_of text.now)).0) }
+            → OnOk result (self.new ≡ moved self.old x (step_of x (reading_of version text.now)).0) }
         ensures order { OnOk result (InOrder self.new) }
     {
-        let reply = self.reply_to(alloc, text)?;
+        let reply = self.reply_to(alloc, version, text)?;
         reply_text(alloc, &reply)
     }
 

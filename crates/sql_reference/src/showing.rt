@@ -41,6 +41,7 @@ pub fn show(alloc: Global, tables: &[Table], q: &Select) -> Result<Items<Row>, R
     let columns = Columns::of(&table.def, part);
     check_select(q, &columns)?;
     let rows = rows_read(alloc, table, part, q)?;
-    let rows = select(alloc, q, &columns, shown(&table.def, part), rows)?;
+    let dropped = table.def.dropped.as_slice();
+    let rows = select(alloc, q, &columns, dropped, shown(&table.def, part), rows)?;
     Ok(Items::from_vec(rows))
 }

@@ -1,3 +1,5 @@
 pub mod FromTaken
+pub mod KnownTotals
 pub mod Projections
+pub mod RepeatedKeys
 pub mod SortKeys

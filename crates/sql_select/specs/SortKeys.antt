@@ -1,5 +1,5 @@
 -- Sorting by columns whose places were looked up.
-use Rattle.std.specs.Prelude.{ℕ, List, [], ◌∷◌, Bool, if◌then◌else◌}
+use Rattle.std.specs.Prelude.{ℕ, ◌==◌, List, [], ◌∷◌, Bool, true, false, Option, Some, None, if◌then◌else◌}
 use Rattle.std.specs.declared.cmp.Ordering.{Ordering}
 use Rattle.std.specs.declared.cmp.Ordering.TheVariants.{Equal}
 use Rattle.std.specs.Ordering.{ordering_then}
@@ -24,3 +24,9 @@ key_cmp key a b =
 abbrev pub keys_cmp : List SortKey → Row → Row → Ordering
 keys_cmp [] a b = Equal
 keys_cmp (k ∷ ks) a b = ordering_then (key_cmp k a b) (keys_cmp ks a b)
+
+-- two keys are of one column
+abbrev pub same_place : Option ℕ → Option ℕ → Bool
+same_place (Some a) (Some b) = a == b
+same_place None None = true
+same_place _ _ = false

@@ -1,9 +1,11 @@
 //! The rows in the order of ORDER BY.
 
-ghost use Rattle.std.specs.Prelude.{◌≡◌, IfOk, map};
+ghost use Rattle.std.specs.Prelude.{◌≡◌, ◌∷◌, ◌++◌, List, IfOk, OnOk, map};
+ghost use Rattle.std.specs.List.{list_any};
+ghost use Rattle.spec_model.specs.Rows.{Row as SpecRow};
 ghost use Rattle.spec_model.specs.Lists.{sorted};
 ghost use Rattle.spec_model.specs.Query as spec;
-ghost use Rattle.sql_select.specs.SortKeys.{key_of, key_cmp, keys_cmp};
+ghost use Rattle.sql_select.specs.SortKeys.{key_of, key_cmp, keys_cmp, same_place};
 
 use crate::showing::value_in;
 use base_types::{Memory, Name};
@@ -37,6 +39,47 @@ fn sort_keys(
         })?;
     }
     Ok(keys)
+}
+
+/// Whether both are one place, or neither is there.
+pub fn is_same_place(a: Option<usize>, b: Option<usize>) -> bool
+    ensures { result ≡ same_place a b }
+{
+    match (a, b) {
+        (Some(a), Some(b)) => a == b,
+        (None, None) => true,
+        _ => false,
+    }
+}
+
+fn has_place(keys: &[SortKey], place: Option<usize>) -> bool
+    ensures { result ≡ list_any (λ key. same_place key.place place) keys.now }
+{
+    keys.iter().any(|key| is_same_place(key.place, place))
+}
+
+/// Adds a key, but for one of a column that has come before: rows that are compared there are equal in it.
+#[tactic(auto, using(crate::proofs::RepeatedKeys::put_behind))]
+fn add_key(kept: &mut Vec<SortKey>, key: SortKey) -> Result<(), Memory>
+    ensures { OnOk result ((rest : List SortKey) (a b : SpecRow)
+        → keys_cmp (kept.new.items ++ rest) a b ≡ keys_cmp (kept.old.items ++ key ∷ rest) a b) }
+{
+    if has_place(kept.as_slice(), key.place) {
+        return Ok(());
+    }
+    kept.push(key)?;
+    Ok(())
+}
+
+/// The keys but for those of a column that has come before, so no more than there are columns.
+fn without_repeated(alloc: Global, keys: &[SortKey]) -> Result<Vec<SortKey>, Memory>
+    ensures { IfOk result (λ kept. (a b : SpecRow) → keys_cmp kept.items a b ≡ keys_cmp keys.now a b) }
+{
+    let mut kept = Vec::new(alloc);
+    for &key in keys {
+        add_key(&mut kept, key)?;
+    }
+    Ok(kept)
 }
 
 /// How two rows stand to each other by one column.
@@ -84,5 +127,6 @@ pub fn ordered(
     ensures { IfOk result (λ out. out.items ≡ sorted (spec.order_cmp columns.now order.now) rows.items) }
 {
     let keys = sort_keys(alloc, columns, order)?;
-    sorted_rows(&keys, rows)
+    let kept = without_repeated(alloc, &keys)?;
+    sorted_rows(&kept, rows)
 }

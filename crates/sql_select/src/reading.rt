@@ -29,10 +29,12 @@ pub fn query_rows<R: LiveVersions>(
     requires { R.are_of versions.now table.now }
     ensures { ItemsMatchUnlessOom (spec.query_rows q.now (table.now, part) (R.versions versions.now)) result }
 {
-    let columns = Columns::of(table.def(), part);
+    let def = table.def();
+    let columns = Columns::of(def, part);
     let key = key_fixed(alloc, table, &q.cond)?;
     let taken = part_taken(alloc, table, part, &columns, &q.cond, &key, versions)?;
-    show_matching(alloc, q, &columns, shown(table.def(), part), taken)
+    let dropped = def.dropped.as_slice();
+    show_matching(alloc, q, &columns, dropped, shown(def, part), taken)
 }
 
 /// The rows of a part of a table that a condition takes.

@@ -1,15 +1,17 @@
 //! What is shown of the rows.
 
-ghost use Rattle.std.specs.Prelude.{◌≡◌, IfOk, map, take};
+ghost use Rattle.std.specs.Prelude.{◌≡◌, ◌++◌, IfOk, OnOk, map, take};
 ghost use Rattle.sql_value.specs.declared.value.Value.TheVariants.{Null};
 ghost use Rattle.spec_model.specs.Columns as columns_spec;
+ghost use Rattle.spec_model.specs.Parts.{what_shown};
 ghost use Rattle.spec_model.specs.Query as spec;
+ghost use Rattle.sql_parts.specs.Dropped.{unless, unflagged};
 ghost use Rattle.sql_select.specs.Answers.{ItemsMatchUnlessOom};
 ghost use Rattle.sql_select.specs.Places.{values_at};
 
 use crate::totals::aggregates;
 use base_types::{Items, Memory, Name};
-use sql_parts::Columns;
+use sql_parts::{Columns, dropped_flags};
 use sql_types::{Row, SelectList};
 use sql_value::{Refusal, Value};
 use std::alloc::Global;
@@ -25,8 +27,25 @@ pub fn value_in<'a>(place: Option<usize>, row: &'a [Value], null: &'a Value) -> 
     }
 }
 
+/// The first so many values of each row, without those of dropped columns.
+#[tactic(auto, using(crate::proofs::Projections::all_shown, crate::proofs::Projections::shown_by_flags))]
+fn shown_of(
+    alloc: Global,
+    dropped: &[u16],
+    shown: usize,
+    rows: Vec<Row>,
+) -> Result<Vec<Row>, Memory>
+    ensures { IfOk result (λ out. out.items ≡ map (what_shown dropped.now shown) rows.items) }
+{
+    if dropped.is_empty() {
+        return first_of_each(alloc, shown, rows);
+    }
+    let flags = dropped_flags(alloc, dropped, shown)?;
+    unflagged_of_each(alloc, &flags, rows)
+}
+
 /// The first so many values of each row.
-fn shown_of(alloc: Global, shown: usize, rows: Vec<Row>) -> Result<Vec<Row>, Memory>
+fn first_of_each(alloc: Global, shown: usize, rows: Vec<Row>) -> Result<Vec<Row>, Memory>
     ensures { IfOk result (λ out. out.items ≡ map (take shown) rows.items) }
 {
     let mut out = Vec::with_capacity(alloc, rows.len())?;
@@ -36,6 +55,37 @@ fn shown_of(alloc: Global, shown: usize, rows: Vec<Row>) -> Result<Vec<Row>, Mem
         out.push(Items::from_vec(values))?;
     }
     Ok(out)
+}
+
+/// The values of each row whose flags are false.
+fn unflagged_of_each(alloc: Global, flags: &[bool], rows: Vec<Row>) -> Result<Vec<Row>, Memory>
+    ensures { IfOk result (λ out. out.items ≡ map (unflagged flags.now) rows.items) }
+{
+    let mut out = Vec::with_capacity(alloc, rows.len())?;
+    for row in rows {
+        out.push(unflagged_values(alloc, flags, row)?)?;
+    }
+    Ok(out)
+}
+
+/// The values of a row whose flags are false. They are moved.
+fn unflagged_values(alloc: Global, flags: &[bool], row: Row) -> Result<Row, Memory>
+    ensures { IfOk result (λ values. values ≡ unflagged flags.now row) }
+{
+    let mut values = Vec::with_capacity(alloc, row.len())?;
+    for (flag, value) in flags.iter().zip(row.into_vec()) {
+        push_unless(&mut values, *flag, value)?;
+    }
+    Ok(Items::from_vec(values))
+}
+
+fn push_unless(values: &mut Vec<Value>, flag: bool, value: Value) -> Result<(), Memory>
+    ensures { OnOk result (values.new.items ≡ values.old.items ++ unless flag value) }
+{
+    if !flag {
+        values.push(value)?;
+    }
+    Ok(())
 }
 
 /// The places of columns.
@@ -87,18 +137,20 @@ fn projected(
     rows_at(alloc, &places, rows)
 }
 
-/// What a SELECT shows of the rows that it took; `*` shows the first `shown` columns.
+/// What a SELECT shows of the rows that it took; `*` shows the first `shown` columns without the dropped ones, which are
+/// given by their ordinals.
 pub fn apply_select_list(
     alloc: Global,
     columns: &Columns,
+    dropped: &[u16],
     shown: usize,
     what: &SelectList,
     rows: Vec<Row>,
 ) -> Result<Vec<Row>, Refusal>
-    ensures { ItemsMatchUnlessOom (spec.apply_select_list columns.now shown what.now rows.items) result }
+    ensures { ItemsMatchUnlessOom (spec.apply_select_list columns.now dropped.now shown what.now rows.items) result }
 {
     match what {
-        SelectList::All => Ok(shown_of(alloc, shown, rows)?),
+        SelectList::All => Ok(shown_of(alloc, dropped, shown, rows)?),
         SelectList::Columns(names) => Ok(projected(alloc, columns, names.as_slice(), &rows)?),
         SelectList::Aggs(aggs) => {
             let mut out = Vec::with_capacity(alloc, 1)?;

@@ -1,7 +1,8 @@
 //! The tables of the system: their definitions, and the starts of the rows that they have of each table and
-//! index.
+//! index, and of what ALTER TABLE and DROP TABLE change.
 
 ghost use Rattle.std.specs.Prelude.{◌≡◌, ◌+◌, IfOk, map, length};
+ghost use Rattle.spec_model.specs.Alter.{altered_table, gone_table};
 ghost use Rattle.spec_model.specs.Effect as effects;
 ghost use Rattle.spec_model.specs.Lists.{numbered};
 ghost use Rattle.spec_model.specs.Rows.{stored_row as spec_stored_row};
@@ -9,7 +10,7 @@ ghost use Rattle.spec_model.specs.Changes as changes;
 ghost use Rattle.spec_model.specs.SystemTables as spec;
 ghost use Rattle.sql_system.specs.Started.{started_rows};
 
-use crate::system_rows::{column_row, index_row, table_row};
+use crate::system_rows::{changed_column_row, changed_table_row, column_row, index_row, table_row};
 use base_types::{Items, Memory, Name, TableId};
 use sql_parts::stored_row;
 use sql_types::{Change, IndexDef, Row, Table, TableDef};
@@ -171,23 +172,23 @@ fn starts_of_columns(
     let mut starts = Items::new(alloc);
     for place in 0..columns.len() {
         let column = &columns[place];
-        starts.push(start_of_column(alloc, stored, id, place, column)?)?;
+        starts.push(start_of_column(alloc, stored, id, place + 1, column)?)?;
     }
     Ok(starts)
 }
 
-/// The start of the row of the column at this place, counted from 0.
+/// The start of the row of the column with this ordinal.
 fn start_of_column(
     alloc: Global,
     stored: &[ColumnDef],
     id: TableId,
-    place: usize,
+    ordinal: usize,
     column: &ColumnDef,
 ) -> Result<Change, Memory>
     ensures { IfOk result (λ change. change
-        ≡ changes.Starts (spec_stored_row stored.now (spec.column_row id (place + 1, column.now)))) }
+        ≡ changes.Starts (spec_stored_row stored.now (spec.column_row id (ordinal, column.now)))) }
 {
-    let row = column_row(alloc, id, place, column)?;
+    let row = column_row(alloc, id, ordinal, column)?;
     start_of(alloc, stored, row)
 }
 
@@ -222,4 +223,36 @@ fn starts_of_index(
         starts.push(start_of(alloc, stored, row)?)?;
     }
     Ok(starts)
+}
+
+/// The start of the row that DROP TABLE adds to the table of tables: that of a table as this change leaves it.
+pub fn changed_table_start(
+    alloc: Global,
+    change: u64,
+    def: &TableDef,
+) -> Result<Items<Change>, Memory>
+    ensures { IfOk result (λ changes. changes ≡ (gone_table change def.now).first) }
+{
+    let columns = tables_columns(alloc)?;
+    let row = changed_table_row(alloc, change, def)?;
+    let start = start_of(alloc, columns.as_slice(), row)?;
+    Ok(Items::from_vec(Vec::from_array(alloc, [start])?))
+}
+
+/// The start of the row that ALTER TABLE adds to the table of columns: that of the column with this ordinal as this
+/// change leaves it, in a table whose definition is then this one.
+pub fn changed_column_start(
+    alloc: Global,
+    change: u64,
+    def: &TableDef,
+    ordinal: usize,
+    column: &ColumnDef,
+) -> Result<Items<Change>, Memory>
+    ensures { IfOk result (λ changes. changes
+        ≡ (altered_table change (def.now, (ordinal, column.now))).second) }
+{
+    let stored = columns_columns(alloc)?;
+    let row = changed_column_row(alloc, change, def, ordinal, column)?;
+    let start = start_of(alloc, stored.as_slice(), row)?;
+    Ok(Items::from_vec(Vec::from_array(alloc, [start])?))
 }

@@ -47,6 +47,7 @@ pub(crate) fn show(
     let columns = Columns::of(def, part);
     check_select(q, &columns)?;
     let rows = rows_read(alloc, def, part, versions, q)?;
-    let rows = select(alloc, q, &columns, shown(def, part), rows)?;
+    let dropped = def.dropped.as_slice();
+    let rows = select(alloc, q, &columns, dropped, shown(def, part), rows)?;
     Ok(Items::from_vec(rows))
 }

@@ -11,7 +11,7 @@ use Rattle.sql_types.specs.declared.table.Part.{Part}
 use Rattle.sql_types.specs.declared.version.TypedValue.{TypedValue}
 use Rattle.sql_types.specs.declared.version.Version.{Version}
 use Rattle.spec_model.specs.Catalog.{find_part}
-use Rattle.spec_model.specs.Changes.{Change, Changes, Starts, Ends, inserted_rows, versions_matched, row_after_set, replaced, insertion, replacement, deletion, row_changes}
+use Rattle.spec_model.specs.Changes.{Change, Changes, Starts, Ends, written_names, inserted_rows, versions_matched, row_after_set, replaced, insertion, replacement, deletion, row_changes}
 use Rattle.spec_model.specs.Checks.{row_check, row_statement_check, table_of}
 use Rattle.spec_model.specs.Lists.{checked_map}
 use Rattle.spec_model.specs.Refusals.{and_then, or_refused}
@@ -105,10 +105,10 @@ module _ (def : TableDef) (V : List Version) (rising : Rising V) (fit : AllByRec
   changes_made : (part : Part) (stmt : RowStmt) (c : Changes) → row_check stmt def part ≡ Ok tt → row_changes def V stmt ≡ Ok c → AreMade def.columns V c.0
   unfolding row_changes
   changes_made part (Insert table names rows) c check e =
-      let l : Led (inserted_rows def.columns V names rows) (λ kept. Ok (insertion def.columns kept)) c = led _ _ c e in
+      let l : Led (inserted_rows def.columns V (written_names def names) rows) (λ kept. Ok (insertion def.columns kept)) c = led _ _ c e in
       let is : insertion def.columns l.value ≡ c = cc in
       subst (λ (d : Changes). AreMade def.columns V d.0) is record {
-        made = starts_made def.columns V rising l.value (inserted_new def.columns V names rows l.value (rows_have_all def part names rows check) l.was);
+        made = starts_made def.columns V rising l.value (inserted_new def.columns V (written_names def names) rows l.value (rows_have_all def part names rows check) l.was);
         apart = starts_apart def.columns V rising l.value;
       }
   changes_made part (Update table sets cond) c check e =

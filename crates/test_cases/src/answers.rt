@@ -8,7 +8,7 @@ use crate::page::Page;
 use crate::pieces::Pieces;
 use crate::records::{changed, cut, record, shown};
 use crate::replies::reply;
-use crate::selecting::selected;
+use crate::selecting::{selected, selected_short};
 use crate::statements::{compared_texts, cut_up, form, lines, name, parsed, sessions};
 use crate::texts::{first_word, text_of};
 use crate::trees::{restored, tree};
@@ -81,6 +81,7 @@ fn of_text(alloc: Global, word: &str, text: &str, page: &mut Page) -> Result<(),
         "eval" => evaluated(alloc, text, page),
         "classes" => classes(alloc, text, page),
         "select" => selected(alloc, text, page),
+        "short" => selected_short(alloc, text, page),
         _ => of_record(alloc, word, text, page),
     }
 }

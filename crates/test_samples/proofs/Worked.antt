@@ -24,6 +24,7 @@ use Rattle.sql_value.specs.Number.{raised}
 use Rattle.sql_value.specs.Text.{utf16_units}
 use Rattle.sql_value.specs.Printed.{pointed, printed}
 use Rattle.sql_types.specs.declared.statement.Stmt.TheVariants as s
+use Rattle.sql_types.specs.declared.statement.Alter.TheVariants.{Add, DropColumn}
 use Rattle.sql_types.specs.declared.table.Part.TheVariants.{Base}
 use Rattle.sql_types.specs.declared.statement.RowStmt.TheVariants.{Insert, Delete, Update}
 use Rattle.sql_types.specs.declared.reply.Reply.TheVariants as r
@@ -42,7 +43,8 @@ use Rattle.spec_model.specs.Where.{holds, key_fixed}
 use Rattle.spec_model.specs.Changes.{changed_all, Starts, Ends, kept, kept_row, arranged, is_duplicate, inserted_rows, versions_matched, row_after_set, row_changes}
 use Rattle.spec_model.specs.Checks.{insert_check, values_check, listed_check, sets_check, update_check, delete_check, row_statement_check}
 use Rattle.spec_model.specs.Query.{select_check, query_check, total, agg_value, selected}
-use Rattle.spec_model.specs.SystemTables.{first_tables, table_row, column_rows, index_rows}
+use Rattle.spec_model.specs.SystemTables.{first_tables, table_row, column_rows, index_rows, changed_table_row, changed_column_row}
+use Rattle.spec_model.specs.Alter.{alter_check, drop_check, dropped_table, next_change}
 use Rattle.spec_model.specs.Create.{table_def, create_check, index_check}
 use Rattle.spec_model.specs.Effect.{query_rows, effect}
 use Rattle.spec_model.specs.Replies.{reply_lines, reply_text}
@@ -50,7 +52,7 @@ use Rattle.sql_types.specs.declared.event.Event.{Event}
 use Rattle.spec_model.specs.Events.{events_of, all_events}
 use Rattle.sql_value.specs.declared.refusal.ValueErr.TheVariants.{Mismatch}
 use Rattle.spec_model.specs.Script.{saves, rolls_back_to, text_step, script_from, script}
-use Rattle.test_samples.specs.Samples.{column, create, create_t, insert, all_of, num, answers, plus_one, typed, version, key_column, def_t, with_t, update_t, id_is, listed, create_x, select, four, answer, index_on, made_tables, delete_1, create_balance, def_balance, of_nick, balance, set_100, select_5, read_in, texts, in_script, by_themselves, each_alone, in_journal, journal, wide_def, wide_tables, wide, nines, wide_where, wide_select, doubled_is_positive, pairs}
+use Rattle.test_samples.specs.Samples.{column, create, create_t, add_to_t, drop_of_t, insert, all_of, num, answers, plus_one, typed, version, key_column, def_t, with_t, update_t, id_is, listed, create_x, select, four, answer, index_on, made_tables, delete_1, create_balance, def_balance, of_nick, balance, set_100, select_5, read_in, texts, in_script, by_themselves, each_alone, in_journal, journal, wide_def, wide_tables, wide, nines, wide_where, wide_select, doubled_is_positive, pairs}
 use Rattle.spec_model.specs.Journals.{IsLegal}
 
 pub of_literal : (v : Value) → tree (Lit v) ≡ literal v
@@ -435,3 +437,57 @@ pub back_twice : map reply_lines (script (read_in in_script) true (effect first_
     ∷ (codes "1|1|2|0|1|N'INSERT'" ∷ codes "3|3|2|1|1|N'INSERT'" ∷ codes "2 rows" ∷ []) ∷ []
 unfolding chars text_step script_from saves rolls_back_to meaning_of sum_of digits value_cmp raised utf16_units pointed printed is_in_range conversion_of find_part started ended key_places key_at key_cmp same_key has_live_row_at live_by_key_at rows_of holds key_fixed changed_all kept kept_row arranged is_duplicate inserted_rows versions_matched row_after_set row_changes insert_check values_check listed_check update_check sets_check delete_check row_statement_check select_check query_check total agg_value selected first_tables table_row column_rows index_rows table_def create_check index_check query_rows effect reply_lines reply_text
 back_twice = refl
+
+-- ---- ALTER TABLE and DROP TABLE
+
+pub worked_row : answers first_tables 1
+    (create_t ∷ insert (codes "t") ((num 1 ∷ num 10 ∷ []) ∷ []) ∷ add_to_t (codes "w") (NVarChar 5)
+    ∷ all_of (codes "t") ∷ drop_of_t (codes "v") ∷ insert (codes "t") ((num 2 ∷ Text (codes "x") ∷ []) ∷ [])
+    ∷ select (codes "t") (Columns (codes "MSSQL_DroppedLedgerColumn_v_2" ∷ codes "id" ∷ [])) []
+    ∷ s.Drop (codes "t") ∷ all_of (codes "t") ∷ all_of (codes "MSSQL_DroppedLedgerTable_t_3")
+    ∷ s.Change (Delete (codes "MSSQL_DroppedLedgerTable_t_3") None) ∷ [])
+    ≡ (codes "made" ∷ []) ∷ (codes "1 rows" ∷ []) ∷ (codes "made" ∷ [])
+    ∷ (codes "1|10|NULL" ∷ codes "1 rows" ∷ []) ∷ (codes "made" ∷ []) ∷ (codes "1 rows" ∷ [])
+    ∷ (codes "10|1" ∷ codes "NULL|2" ∷ codes "2 rows" ∷ [])
+    ∷ (codes "made" ∷ []) ∷ (codes "E02" ∷ []) ∷ (codes "1|NULL" ∷ codes "2|N'x'" ∷ codes "2 rows" ∷ [])
+    ∷ (codes "E11" ∷ []) ∷ []
+unfolding chars digits value_cmp raised utf16_units pointed printed is_in_range conversion_of find_part started ended key_places key_at key_cmp same_key has_live_row_at live_by_key_at rows_of holds key_fixed changed_all kept kept_row arranged is_duplicate inserted_rows versions_matched row_after_set row_changes insert_check values_check listed_check update_check sets_check delete_check row_statement_check select_check query_check total agg_value selected first_tables table_row column_rows index_rows table_def create_check index_check alter_check drop_check dropped_table next_change changed_table_row changed_column_row query_rows effect reply_lines reply_text
+worked_row = refl
+
+pub rows_of_changes : answers (with_t []) 4
+    (add_to_t (codes "w") (NVarChar 5) ∷ drop_of_t (codes "v") ∷ s.Drop (codes "t")
+    ∷ all_of (codes "sys_ledger_tables") ∷ all_of (codes "sys_ledger_columns") ∷ [])
+    ≡ (codes "made" ∷ []) ∷ (codes "made" ∷ []) ∷ (codes "made" ∷ [])
+    ∷ (codes "3|3|N'MSSQL_DroppedLedgerTable_t_3'|4|N'MSSQL_DroppedLedgerHistory_MSSQL_LedgerHistoryFor_3_3'|N'MSSQL_DroppedLedgerView_t_Ledger_3'"
+    ∷ codes "1 rows" ∷ [])
+    ∷ (codes "3|2|2|N'MSSQL_DroppedLedgerColumn_v_2'|2|0|0|1|-1" ∷ codes "3|3|1|N'w'|5|5|0|1|0"
+    ∷ codes "2 rows" ∷ []) ∷ []
+unfolding chars digits value_cmp raised utf16_units pointed printed is_in_range conversion_of find_part started ended key_places key_at key_cmp same_key has_live_row_at live_by_key_at rows_of holds key_fixed changed_all kept kept_row arranged is_duplicate inserted_rows versions_matched row_after_set row_changes insert_check values_check listed_check update_check sets_check delete_check row_statement_check select_check query_check total agg_value selected first_tables table_row column_rows index_rows table_def create_check index_check alter_check drop_check dropped_table next_change changed_table_row changed_column_row query_rows effect reply_lines reply_text
+rows_of_changes = refl
+
+pub order_of_refusals : answers (with_t []) 4
+    (s.Alter (Add (codes "nope") (column (codes "v") Int true))
+    ∷ s.Alter (Add (codes "t_Ledger") (column (codes "v") (NVarChar 0) true))
+    ∷ s.Alter (Add (codes "t_Ledger") (column (codes "w") (NVarChar 0) true))
+    ∷ s.Alter (Add (codes "t_Ledger") (column (codes "w") Int true))
+    ∷ s.Alter (Add (codes "sys_ledger_tables") (column (codes "name") Int true))
+    ∷ s.Alter (DropColumn (codes "t_Ledger") (codes "nope")) ∷ drop_of_t (codes "nope")
+    ∷ drop_of_t (codes "id") ∷ s.Drop (codes "nope") ∷ s.Drop (codes "t_Ledger") ∷ [])
+    ≡ (codes "E02" ∷ []) ∷ (codes "E03" ∷ []) ∷ (codes "E16" ∷ []) ∷ (codes "E11" ∷ []) ∷ (codes "E03" ∷ [])
+    ∷ (codes "E11" ∷ []) ∷ (codes "E04" ∷ []) ∷ (codes "E12" ∷ []) ∷ (codes "E02" ∷ []) ∷ (codes "E11" ∷ [])
+    ∷ []
+unfolding chars digits value_cmp raised utf16_units pointed printed is_in_range conversion_of find_part started ended key_places key_at key_cmp same_key has_live_row_at live_by_key_at rows_of holds key_fixed changed_all kept kept_row arranged is_duplicate inserted_rows versions_matched row_after_set row_changes insert_check values_check listed_check update_check sets_check delete_check row_statement_check select_check query_check total agg_value selected first_tables table_row column_rows index_rows table_def create_check index_check alter_check drop_check dropped_table next_change changed_table_row changed_column_row query_rows effect reply_lines reply_text
+order_of_refusals = refl
+
+pub dropped_columns_are_read : answers (with_t (version 1 10 (2, 0) None ∷ [])) 4
+    (drop_of_t (codes "v") ∷ drop_of_t (codes "MSSQL_DroppedLedgerColumn_v_2")
+    ∷ listed (codes "MSSQL_DroppedLedgerColumn_v_2" ∷ []) ((num 1 ∷ []) ∷ [])
+    ∷ index_on (codes "iv") (codes "t") (codes "MSSQL_DroppedLedgerColumn_v_2" ∷ [])
+    ∷ add_to_t (codes "MSSQL_DroppedLedgerColumn_v_2") Int ∷ add_to_t (codes "v") Int ∷ drop_of_t (codes "v")
+    ∷ select (codes "t") (Columns (codes "MSSQL_DroppedLedgerColumn_v_3" ∷ codes "MSSQL_DroppedLedgerColumn_v_2" ∷ [])) []
+    ∷ all_of (codes "t_Ledger") ∷ [])
+    ≡ (codes "made" ∷ []) ∷ (codes "E04" ∷ []) ∷ (codes "E04" ∷ []) ∷ (codes "E04" ∷ []) ∷ (codes "E03" ∷ [])
+    ∷ (codes "made" ∷ []) ∷ (codes "made" ∷ []) ∷ (codes "NULL|10" ∷ codes "1 rows" ∷ [])
+    ∷ (codes "1|2|0|1|N'INSERT'" ∷ codes "1 rows" ∷ []) ∷ []
+unfolding chars digits value_cmp raised utf16_units pointed printed is_in_range conversion_of find_part started ended key_places key_at key_cmp same_key has_live_row_at live_by_key_at rows_of holds key_fixed changed_all kept kept_row arranged is_duplicate inserted_rows versions_matched row_after_set row_changes insert_check values_check listed_check update_check sets_check delete_check row_statement_check select_check query_check total agg_value selected first_tables table_row column_rows index_rows table_def create_check index_check alter_check drop_check dropped_table next_change changed_table_row changed_column_row query_rows effect reply_lines reply_text
+dropped_columns_are_read = refl

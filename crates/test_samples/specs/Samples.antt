@@ -16,6 +16,7 @@ use Rattle.sql_types.specs.declared.statement.Stmt.{Stmt}
 use Rattle.sql_types.specs.declared.statement.Stmt.TheVariants as s
 use Rattle.sql_types.specs.declared.statement.RowStmt.{RowStmt}
 use Rattle.sql_types.specs.declared.statement.Select.{Select}
+use Rattle.sql_types.specs.declared.statement.Alter.TheVariants.{Add, DropColumn}
 use Rattle.sql_types.specs.declared.statement.RowStmt.TheVariants.{Insert, Delete, Update}
 use Rattle.sql_types.specs.declared.statement.SelectList.TheVariants.{All}
 use Rattle.sql_types.specs.declared.table.TableDef.{TableDef}
@@ -51,6 +52,14 @@ create name columns kind history =
 abbrev pub create_t : Stmt
 create_t =
     create (codes "t") (column (codes "id") Int false ∷ column (codes "v") Int true ∷ []) Updatable None
+
+-- ALTER TABLE t ADD
+abbrev pub add_to_t : List ℕ → SqlType → Stmt
+add_to_t name ty = s.Alter (Add (codes "t") (column name ty true))
+
+-- ALTER TABLE t DROP COLUMN
+abbrev pub drop_of_t : List ℕ → Stmt
+drop_of_t name = s.Alter (DropColumn (codes "t") name)
 
 abbrev pub insert : List ℕ → List (List Value) → Stmt
 insert table rows = s.Change (Insert table None rows)

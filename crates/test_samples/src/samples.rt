@@ -11,6 +11,7 @@ ghost use Rattle.sql_value.specs.Conversion.{conversion_of};
 ghost use Rattle.sql_value.specs.Day.{civil, number_of};
 ghost use Rattle.sql_types.specs.declared.statement.Stmt.TheVariants as s;
 ghost use Rattle.sql_types.specs.declared.statement.Select.{Select};
+ghost use Rattle.sql_types.specs.declared.statement.Alter.TheVariants.{Add, DropColumn};
 ghost use Rattle.sql_types.specs.declared.statement.RowStmt.TheVariants.{Insert, Delete, Update};
 ghost use Rattle.sql_types.specs.declared.reply.Reply.TheVariants as r;
 ghost use Rattle.sql_value.specs.declared.refusal.Refusal.TheVariants.{NameConflict, NoSuchColumn, NullNotAllowed, DuplicateKey, NumberOutOfRange, ReadOnlyTable, KeyNotUpdatable, LimitExceeded, ValueCountMismatch};
@@ -34,7 +35,7 @@ ghost use Rattle.spec_model.specs.Events.{all_events};
 ghost use Rattle.sql_value.specs.declared.refusal.ValueErr.TheVariants.{Mismatch};
 ghost use Rattle.spec_model.specs.Script.{script};
 ghost use Rattle.spec_model.specs.Journals.{IsLegal};
-ghost use Rattle.test_samples.specs.Samples.{pair_def, pairs, in_journal, journal, wide_def, wide_tables, wide, nines, wide_select, column, create, create_t, insert, all_of, num, answers, version, key_column, def_t, with_t, update_t, id_is, listed, create_x, select, four, answer, index_on, made_tables, delete_1, create_balance, def_balance, of_nick, balance, set_100, select_5, read_in, texts, in_script, by_themselves, each_alone, nested, one_or_other, update_5};
+ghost use Rattle.test_samples.specs.Samples.{pair_def, pairs, in_journal, journal, wide_def, wide_tables, wide, nines, wide_select, column, create, create_t, add_to_t, drop_of_t, insert, all_of, num, answers, version, key_column, def_t, with_t, update_t, id_is, listed, create_x, select, four, answer, index_on, made_tables, delete_1, create_balance, def_balance, of_nick, balance, set_100, select_5, read_in, texts, in_script, by_themselves, each_alone, nested, one_or_other, update_5};
 
 /// Replies to small statements.
 pub fn statements_are_answered()
@@ -68,6 +69,51 @@ pub fn statements_are_answered()
         ≡ (codes "made" ∷ []) ∷ (codes "E03" ∷ []) ∷ (codes "E11" ∷ [])
         ∷ (codes "3|1001|0|N'iv'|0|0|0|0|2" ∷ codes "3|1002|0|N'iv'|0|0|0|0|1" ∷ codes "2 rows" ∷ []) ∷ [] }
     ensures no_leap_day { conversion_of (Text (codes "2023-02-29")) Date ≡ Err Mismatch }
+{}
+
+/// What is left of dropped columns and tables, what is NULL in a column that was added, the rows that say so, and which
+/// refusal comes first.
+pub fn definitions_are_changed()
+    ensures worked_row { answers first_tables 1
+        (create_t ∷ insert (codes "t") ((num 1 ∷ num 10 ∷ []) ∷ []) ∷ add_to_t (codes "w") (NVarChar 5)
+        ∷ all_of (codes "t") ∷ drop_of_t (codes "v") ∷ insert (codes "t") ((num 2 ∷ Text (codes "x") ∷ []) ∷ [])
+        ∷ select (codes "t") (Columns (codes "MSSQL_DroppedLedgerColumn_v_2" ∷ codes "id" ∷ [])) []
+        ∷ s.Drop (codes "t") ∷ all_of (codes "t") ∷ all_of (codes "MSSQL_DroppedLedgerTable_t_3")
+        ∷ s.Change (Delete (codes "MSSQL_DroppedLedgerTable_t_3") None) ∷ [])
+        ≡ (codes "made" ∷ []) ∷ (codes "1 rows" ∷ []) ∷ (codes "made" ∷ [])
+        ∷ (codes "1|10|NULL" ∷ codes "1 rows" ∷ []) ∷ (codes "made" ∷ []) ∷ (codes "1 rows" ∷ [])
+        ∷ (codes "10|1" ∷ codes "NULL|2" ∷ codes "2 rows" ∷ [])
+        ∷ (codes "made" ∷ []) ∷ (codes "E02" ∷ []) ∷ (codes "1|NULL" ∷ codes "2|N'x'" ∷ codes "2 rows" ∷ [])
+        ∷ (codes "E11" ∷ []) ∷ [] }
+    ensures rows_of_changes { answers (with_t []) 4
+        (add_to_t (codes "w") (NVarChar 5) ∷ drop_of_t (codes "v") ∷ s.Drop (codes "t")
+        ∷ all_of (codes "sys_ledger_tables") ∷ all_of (codes "sys_ledger_columns") ∷ [])
+        ≡ (codes "made" ∷ []) ∷ (codes "made" ∷ []) ∷ (codes "made" ∷ [])
+        ∷ (codes "3|3|N'MSSQL_DroppedLedgerTable_t_3'|4|N'MSSQL_DroppedLedgerHistory_MSSQL_LedgerHistoryFor_3_3'|N'MSSQL_DroppedLedgerView_t_Ledger_3'"
+        ∷ codes "1 rows" ∷ [])
+        ∷ (codes "3|2|2|N'MSSQL_DroppedLedgerColumn_v_2'|2|0|0|1|-1" ∷ codes "3|3|1|N'w'|5|5|0|1|0"
+        ∷ codes "2 rows" ∷ []) ∷ [] }
+    ensures order_of_refusals { answers (with_t []) 4
+        (s.Alter (Add (codes "nope") (column (codes "v") Int true))
+        ∷ s.Alter (Add (codes "t_Ledger") (column (codes "v") (NVarChar 0) true))
+        ∷ s.Alter (Add (codes "t_Ledger") (column (codes "w") (NVarChar 0) true))
+        ∷ s.Alter (Add (codes "t_Ledger") (column (codes "w") Int true))
+        ∷ s.Alter (Add (codes "sys_ledger_tables") (column (codes "name") Int true))
+        ∷ s.Alter (DropColumn (codes "t_Ledger") (codes "nope")) ∷ drop_of_t (codes "nope")
+        ∷ drop_of_t (codes "id") ∷ s.Drop (codes "nope") ∷ s.Drop (codes "t_Ledger") ∷ [])
+        ≡ (codes "E02" ∷ []) ∷ (codes "E03" ∷ []) ∷ (codes "E16" ∷ []) ∷ (codes "E11" ∷ []) ∷ (codes "E03" ∷ [])
+        ∷ (codes "E11" ∷ []) ∷ (codes "E04" ∷ []) ∷ (codes "E12" ∷ []) ∷ (codes "E02" ∷ []) ∷ (codes "E11" ∷ [])
+        ∷ [] }
+    ensures dropped_columns_are_read { answers (with_t (version 1 10 (2, 0) None ∷ [])) 4
+        (drop_of_t (codes "v") ∷ drop_of_t (codes "MSSQL_DroppedLedgerColumn_v_2")
+        ∷ listed (codes "MSSQL_DroppedLedgerColumn_v_2" ∷ []) ((num 1 ∷ []) ∷ [])
+        ∷ index_on (codes "iv") (codes "t") (codes "MSSQL_DroppedLedgerColumn_v_2" ∷ [])
+        ∷ add_to_t (codes "MSSQL_DroppedLedgerColumn_v_2") Int ∷ add_to_t (codes "v") Int ∷ drop_of_t (codes "v")
+        ∷ select (codes "t") (Columns (codes "MSSQL_DroppedLedgerColumn_v_3" ∷ codes "MSSQL_DroppedLedgerColumn_v_2" ∷ [])) []
+        ∷ all_of (codes "t_Ledger") ∷ [])
+        ≡ (codes "made" ∷ []) ∷ (codes "E04" ∷ []) ∷ (codes "E04" ∷ []) ∷ (codes "E04" ∷ []) ∷ (codes "E03" ∷ [])
+        ∷ (codes "made" ∷ []) ∷ (codes "made" ∷ []) ∷ (codes "NULL|10" ∷ codes "1 rows" ∷ [])
+        ∷ (codes "1|2|0|1|N'INSERT'" ∷ codes "1 rows" ∷ []) ∷ [] }
 {}
 
 /// The starts and ends of small statements, and what history and view show of them.

@@ -2,7 +2,7 @@ use Rattle.std.proofs.Common.{◌≡◌, ◌<◌, ◌^◌, get_or, ap, ◌∙◌
 use Rattle.std.proofs.lemmas.List.{take-append-drop, length-take, take_all}
 use Rattle.std.proofs.Math.Seq.{drop-cons}
 use Rattle.spec_model.specs.Journals.{IsLegal}
-use Rattle.spec_syntax.specs.Text.{statement_of}
+use Rattle.spec_syntax.specs.Text.{reading_of}
 use Rattle.format_image.specs.Image.{image_of}
 use Rattle.audit_replay.specs.Reached.{KeepRules, image_from}
 use Rattle.std.specs.List.{AllByRecursion}
@@ -20,7 +20,7 @@ use Rattle.audit_replay.proofs.running.replay.Goals as goal
 
 pub loop-place-init : goal.loop-place-init
 loop-place-init g c =
-    first_reached _ c.in_ok-serial_machine.serial_machine c.new-ledger_chain.result c.in_ok-serial_machine.ensures.tables c.in_ok-serial_machine.ensures.order c.new-ledger_chain.ensures
+    first_reached (reading_of c.args.journal.now.version) _ c.in_ok-serial_machine.serial_machine c.new-ledger_chain.result c.in_ok-serial_machine.ensures.tables c.in_ok-serial_machine.ensures.order c.new-ledger_chain.ensures
 
 pub run_item-requires-clause-follows : goal.run_item-requires-clause-follows
 run_item-requires-clause-follows g c κs within =
@@ -59,7 +59,7 @@ returns-clause-legal g c =
       version = c.requires.version;
       database = c.requires.database;
       items = (rules_of c.args.journal.now c.requires).each;
-      legal = subst (IsLegal statement_of) all c.loop-place.invariant.legal;
+      legal = subst (IsLegal (reading_of c.args.journal.now.version)) all c.loop-place.invariant.legal;
     }
 
 pub returns-clause-image : goal.returns-clause-image
@@ -69,19 +69,20 @@ returns-clause-image g c =
     take_all c.loop-place.place items (omega (arith, ap length c.as_slice-items.ensures, c.loop-place-test.false)) in
     c.in_ok-image.ensures
     ∙ ap (image_from c.args.journal.now.database c.loop-place.ledger_chain.ledger) c.into_tables.ensures
-    ∙ image_is (g.H.Hash32.digest c.args.h) c.args.journal.now.database
+    ∙ image_is (reading_of c.args.journal.now.version) (g.H.Hash32.digest c.args.h) c.args.journal.now.database
     (take c.loop-place.place items) c.loop-place.serial_machine c.loop-place.ledger_chain c.loop-place.invariant
-    ∙ ap (image_of (g.H.Hash32.digest c.args.h) statement_of c.args.journal.now.database) all
+    ∙ ap (image_of (g.H.Hash32.digest c.args.h) (reading_of c.args.journal.now.version) c.args.journal.now.database) all
 
 pub returns-clause-spelling : goal.returns-clause-spelling
 returns-clause-spelling g c =
     let items = c.args.journal.now.items in
     let h = g.H.Hash32.digest c.args.h in
+    let reads = reading_of c.args.journal.now.version in
     let all : take c.loop-place.place items ≡ items =
     take_all c.loop-place.place items (omega (arith, ap length c.as_slice-items.ensures, c.loop-place-test.false)) in
-    let reached : Reached h items c.loop-place.serial_machine c.loop-place.ledger_chain =
-    subst (λ l. Reached h l c.loop-place.serial_machine c.loop-place.ledger_chain) all c.loop-place.invariant in
-    let here : c.tables.result.now ≡ serial statement_of items =
+    let reached : Reached h reads items c.loop-place.serial_machine c.loop-place.ledger_chain =
+    subst (λ l. Reached h reads l c.loop-place.serial_machine c.loop-place.ledger_chain) all c.loop-place.invariant in
+    let here : c.tables.result.now ≡ serial reads items =
     c.tables.ensures ∙ ap (λ (m : Machine). m.tables) reached.machine in
     let in_blocks : blocks items < 2 ^ 64 =
     omega (
@@ -89,7 +90,7 @@ returns-clause-spelling g c =
       c.blocks-blocks.type_inv.0,
       ap length c.blocks-blocks.ensures,
       ap (λ (l : Ledger). length l.blocks) reached.ledger,
-      blocks_counted h statement_of items,
+      blocks_counted h reads items,
     ) in
     let in_entries : tx_count items < 2 ^ 64 =
     omega (
@@ -97,11 +98,11 @@ returns-clause-spelling g c =
       c.entries-entries.type_inv.0,
       ap length c.entries-entries.ensures,
       ap (λ (l : Ledger). length (l.closed ++ l.pending)) reached.ledger,
-      entries_counted h statement_of items,
+      entries_counted h reads items,
     ) in
     subst IsImage (sym (returns-clause-image g c))
-    (c.legal_images_are_encodable.ensures h statement_of c.args.journal.now.database items
-    (c.readings_of_the_grammar_give_written.ensures.written statement_of c.readings_of_the_grammar_give_written.ensures.parser)
+    (c.legal_images_are_encodable.ensures h reads c.args.journal.now.database items
+    (c.readings_of_the_grammar_give_written.ensures.written reads (c.readings_of_the_grammar_give_written.ensures.versions c.args.journal.now.version))
     reached.legal
     (record {
       hash = (g.met.H.Hash32 g.world.𝓛 g.world.𝓜 g.world.𝓡 ((λ s x. x), (λ x. x), (λ x. x), λ x. x)).sized c.args.h;

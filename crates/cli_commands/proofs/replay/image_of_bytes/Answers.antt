@@ -1,4 +1,5 @@
 use Rattle.std.proofs.lemmas.Result.{err_from_is_err_and}
+use Rattle.spec_syntax.specs.Text.{reading_of}
 use Rattle.cli_commands.proofs.ReplayLemmas.{image_made, no_image, lacks_journal}
 use Rattle.cli_commands.proofs.replay.image_of_bytes.Goals as goal
 
@@ -9,7 +10,9 @@ returns-in_err-journal-clause-lacks g c =
 
 pub returns-clause-image : goal.returns-clause-image
 returns-clause-image g c =
-    image_made (g.H.Hash32.digest c.args.h) c.in_ok-journal.journal c.args.bytes.now c.run_again.result c.images_of_legal_journals_verify.ensures.parsed
+    image_made (g.H.Hash32.digest c.args.h) c.in_ok-journal.journal c.args.bytes.now c.run_again.result c.images_of_legal_journals_verify.ensures.written
+    (c.readings_of_the_grammar_give_written.ensures.written (reading_of c.in_ok-journal.journal.version)
+    (c.readings_of_the_grammar_give_written.ensures.versions c.in_ok-journal.journal.version))
     c.in_ok-journal.ensures.spelled c.run_again.ensures.legal c.run_again.ensures.made c.run_again.ensures.spelling
 
 pub returns-clause-lacks : goal.returns-clause-lacks

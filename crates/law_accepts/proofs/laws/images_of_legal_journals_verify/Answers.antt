@@ -21,7 +21,5 @@ returns c =
           (cut_legal statement_of j.items m legal.legal)
           (room_of_cut h statement_of j.database j.items m legal.legal room));
       written = verifies;
-      first = λ h reads j m digests written legal all_held is_image.
-          verifies_1 h reads j m digests written legal all_held is_image
-          (c.legal_images_have_nothing_gone.ensures h reads j.database (cut j.items m) written (cut_legal reads j.items m legal.legal));
+      first = verifies_1;
     }

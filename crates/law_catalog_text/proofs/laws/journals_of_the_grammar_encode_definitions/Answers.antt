@@ -1,4 +1,4 @@
-use Rattle.law_syntax.specs.Text.{statement_of}
+use Rattle.spec_syntax.specs.Text.{statement_of}
 use Rattle.law_catalog_text.proofs.laws.journals_of_the_grammar_encode_definitions.Goals as goal
 
 pub returns-clause-spelled : goal.returns-clause-spelled

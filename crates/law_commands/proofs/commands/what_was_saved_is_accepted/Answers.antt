@@ -1,4 +1,4 @@
-use Rattle.std.proofs.Common.{None, Some, refl}
+use Rattle.std.proofs.Common.{None, Some, refl, ap, ◌∙◌}
 use Rattle.format_lines.specs.Sessions.{sessions_of}
 use Rattle.spec_history.specs.Inputs.{sessions_in}
 use Rattle.law_headline.specs.Before.{InOneOrder, InOrderOfLines}
@@ -15,7 +15,7 @@ returns-clause-step g c = λ h how clock save input old new taken_old taken_new 
     let lines = lines_of ran.said in
     let keeps = c.saved_files_keep_the_headline.ensures.step h how clock ran.said ran.output came in
     exhibits h (sessions_in lines (sessions_of ran.said)) None (InOrderOfLines how.block_size lines came.run.X ran.output.journal.items) came.run.X ran.output
-    keeps.1 new save input ran.saved.digests keeps.0 (ran.saved.are_in_vault refl) ran.saved.digests_read_back ran.saved.journal_is_encodable
+    keeps.1 new save input ran.saved.digests (ap (λ J. J.version) came.is.journal ∙ came.came.version) keeps.0 (ran.saved.are_in_vault refl) ran.saved.digests_read_back ran.saved.journal_is_encodable
     (c.digests_that_were_put_can_be_read.ensures.step h how clock Done save input (Some old) (Some new) taken_old taken_new ran)
 
 pub returns-clause-run : goal.returns-clause-run
@@ -23,7 +23,7 @@ returns-clause-run g c = λ h how clock save input old new taken_old taken_new r
     let came = ran.came in
     let keeps = c.saved_files_keep_the_headline.ensures.run h how clock ran.said ran.output came in
     exhibits h (input_of ran.said) (Some 0) (InOneOrder came.left.X ran.output.journal.items) came.left.X ran.output
-    keeps.1 new save input ran.saved.digests keeps.0 (ran.saved.are_in_vault refl) ran.saved.digests_read_back ran.saved.journal_is_encodable
+    keeps.1 new save input ran.saved.digests (ap (λ J. J.version) came.is.journal ∙ came.came.version) keeps.0 (ran.saved.are_in_vault refl) ran.saved.digests_read_back ran.saved.journal_is_encodable
     (c.digests_that_were_put_can_be_read.ensures.run h how clock Done save input (Some old) (Some new) taken_old taken_new ran)
 
 pub returns-clause-replay : goal.returns-clause-replay

@@ -2,4 +2,4 @@ use Rattle.law_image.proofs.Images.{nothing_is_gone}
 use Rattle.law_image.proofs.laws.legal_images_have_nothing_gone.Goals as goal
 
 pub returns : goal.returns
-returns c = λ h reads database items gives legal. nothing_is_gone reads gives items legal h database
+returns c = nothing_is_gone

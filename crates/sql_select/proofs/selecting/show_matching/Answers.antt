@@ -8,4 +8,4 @@ pub returns : goal.returns
 returns c =
     let columns = c.args.columns.now in
     let order = c.in_ok-ordered.ensures ∙ ap (λ o. sorted (order_cmp columns o) c.args.taken.items) c.as_slice.ensures in
-    subst (λ rows. ItemsMatchUnlessOom (apply_select_list columns c.args.shown c.args.q.now.what rows) c.apply_select_list.result) order c.apply_select_list.ensures
+    subst (λ rows. ItemsMatchUnlessOom (apply_select_list columns c.args.dropped.now c.args.shown c.args.q.now.what rows) c.apply_select_list.result) order c.apply_select_list.ensures

@@ -1,4 +1,5 @@
 use Rattle.std.proofs.Common.{◌≡◌, ◌≢◌, Some, None}
+use Rattle.sql_parse.specs.Text.{reading_of}
 use Rattle.sql_reference.specs.Machine.{Running}
 use Rattle.sql_reference.specs.Order.{InOrder}
 use Rattle.sql_reference.proofs.Differences.{Along}
@@ -6,4 +7,4 @@ use Rattle.sql_reference.proofs.serial_machine.SerialMachine.first_difference.Gi
 
 abbrev pub invariant-loop-place : goal.invariant-loop-place
 invariant-loop-place l =
-    InOrder l.self × (l.self.script ≢ None) × ((x : Running) → l.initial.self.script ≡ Some x → Along l.initial.self x l.script l.place l.self)
+    InOrder l.self × (l.self.script ≢ None) × ((x : Running) → l.initial.self.script ≡ Some x → Along (reading_of l.version) l.initial.self x l.script l.place l.self)
