@@ -88,7 +88,7 @@ fn add_table(
     ensures { OnOk result (tables.new.items ≡ tables.old.items
         ++ spec.users_at (is_among txs.now) (rows_in first.now) (rows_in second.now) (def ∷ []) (rows ∷ [])) }
 {
-    let def = def_told(alloc, second, def)?;
+    let def = def_told(alloc, first, second, def)?;
     if is_encoded(alloc, first, second, &def)? {
         tables.push(table_at(alloc, txs, def, rows)?)?;
     }

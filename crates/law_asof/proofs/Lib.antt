@@ -2,3 +2,4 @@ pub mod Later
 pub mod Shown
 mod Stays
 pub mod Told
+mod Worked

@@ -12,6 +12,7 @@ use Rattle.spec_model.specs.Effect.{column_starts, index_starts, table_start}
 use Rattle.spec_model.specs.Lists.{numbered}
 use Rattle.spec_model.specs.Rows.{Row, stored_row}
 use Rattle.spec_model.specs.SystemTables.{column_row, column_rows, columns_columns, index_row, index_rows, tables_columns}
+use Rattle.law_journal.specs.Described.{InRange}
 use Rattle.law_journal.specs.Fits.{Fits}
 use Rattle.law_journal.proofs.Created.{Created, Indexed, indexed}
 use Rattle.law_journal.proofs.SystemRows.{IsSmall, column_row_fits, index_row_fits, table_row_fits}
@@ -48,6 +49,7 @@ columns_starts_are_rows defs def c = starts_are_rows (map (column_row def.id) (n
 pub record OfIndex (defs : Defs) (def : TableDef) (index : IndexDef) : Type 0 where
   pub has_listing : IsListedAt 1 defs def
   pub few : length def.columns ≤ 64
+  pub types : InRange def
   pub rows : AllByRecursion IsRow (index_starts def index)
 
 pub of_index : (defs : Defs) (c : CreateIndex) (def : TableDef) (index : IndexDef) → AreFormed defs → index_check defs c ≡ Ok (def, index) → OfIndex defs def index
@@ -59,6 +61,7 @@ of_index defs c def index formed e =
     record {
       has_listing = s;
       few = few;
+      types = subst InRange i.is (found_all InRange defs i.table i.found i.by_name formed.types);
       rows = starts_are_rows (map (index_row def.id (length def.indexes + 1) index.name) (numbered 1 index.ordinals))
           (ordinals_fit def.id (length def.indexes + 1) 1 index.name index.ordinals (omega (arith, s.id, s.within, formed.count)) (omega (arith, i.indexes, i.count)) i.name
           (low few index.ordinals i.ordinals));
