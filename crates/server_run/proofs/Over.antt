@@ -1,5 +1,5 @@
 -- A session is over, and its transcript is written behind those that its seat has.
-use Rattle.std.proofs.Common.{◌≡◌, ℕ, List, [], ◌∷◌, ◌++◌, Option, Some, None, append-nil, length, map, take, refl, sym, ap, subst, ◌∙◌}
+use Rattle.std.proofs.Common.{◌≡◌, ℕ, List, [], ◌∷◌, ◌++◌, Option, Some, None, append-nil, length, map, take, refl, sym, ap, ap₂, subst, ◌∙◌}
 use Rattle.std.specs.Borrow.{Bor}
 use Rattle.spec_history.specs.Lists.{Text, Each}
 use Rattle.spec_history.specs.Transcripts.{Entry, EndLine, statements}
@@ -15,7 +15,7 @@ use Rattle.server_session.specs.Steps.{Ends, end_of, images_kept, last_entries}
 use Rattle.server_session.specs.declared.running.Running.{Running}
 use Rattle.server_session.specs.declared.stage.ControlPoint.{ControlPoint}
 use Rattle.server_session.specs.declared.stage.ControlPoint.TheVariants.{Between, Inside, Leaving, Over}
-use Rattle.server_engine.specs.Written.{LeavesSession}
+use Rattle.server_engine.specs.Written.{LeavesSession, texts_shown}
 use Rattle.server_engine.specs.declared.session.Session as core
 use Rattle.server_engine.proofs.AnonymousActs.{one_session}
 use Rattle.server_run.specs.Seated.{known_by, says_in, texts_in, under_way, IsAhead, IsSeated}
@@ -63,8 +63,9 @@ module _ {H C : Type 0} (digest : H → List ℕ → List ℕ) (says : C → ℕ
   texts_are = ap statements entries_are ∙ statements_more now.sits.x.transcript.entries last ∙ ap (λ (ts : List Text). statements now.sits.x.transcript.entries ++ ts) (no_statement (end_of y.seat.running))
       ∙ append-nil (statements now.sits.x.transcript.entries) ∙ all_answered digest says job v serves y n image s ahead (none_at_end y.seat.point y.seat.running y.seat.text ends) ∙ taken_all job.statements.now n all
 
-  shown : z.entries ≡ map (entry_text job.name.now) its_end.w.transcript.entries
-  shown = left.gained ∙ ap (λ (name : Text). y.entries ++ map (entry_text name) last) now.name ∙ ap (λ (ts : List Text). ts ++ map (entry_text job.name.now) last) now.entries
+  shown : texts_shown z ≡ map (entry_text job.name.now) its_end.w.transcript.entries
+  shown = ap₂ (λ (texts more : List Text). texts ++ more) left.entries
+      (ap₂ (λ (name : Text) (end : Option EndLine). map (entry_text name) (last_entries end)) (left.name ∙ now.name) left.last) ∙ ap (λ (ts : List Text). ts ++ map (entry_text job.name.now) last) now.entries
       ∙ sym (texts_more (entry_text job.name.now) now.sits.x.transcript.entries last) ∙ ap (map (entry_text job.name.now)) (sym entries_are)
 
   is_written : IsWritten (says_in says job) job.name.now (texts_in job.statements.now) (left_of (at job z n image)) its_end.w

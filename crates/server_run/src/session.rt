@@ -12,7 +12,7 @@ ghost use Rattle.server_run.specs.Wrote.{HasWritten, left_of};
 
 use crate::settling::settle;
 use crate::shared::{Cells, ThreadSeat};
-use crate::visits::visit_needed;
+use crate::visits::{visit_needed, visit_to_end};
 use crate::worker::{Job, SessionEnd, Worker, begin};
 use base_io::{Clock, Gate};
 use base_merkle::Hash32;
@@ -84,7 +84,7 @@ fn run_statements<'a, K: Serving, H: Hash32, C: Clock, G: Gate, R: Wait>(
     Ok(())
 }
 
-/// Ends the session: where a transaction is open, it is ended too.
+/// Ends the session: where a transaction is open, it is ended too. Takes no memory.
 fn end_session<'a, K: Serving, H: Hash32, C: Clock, G: Gate, R: Wait>(
     rt: &R,
     alloc: Global,
@@ -92,7 +92,7 @@ fn end_session<'a, K: Serving, H: Hash32, C: Clock, G: Gate, R: Wait>(
     board: &Cells<K>,
     place: &mut ThreadSeat<K>,
     worker: &mut Worker<'a, H, C>,
-) -> Result<(), Memory>
+)
     requires free { IsFree board.now place.old }
     requires serves { Serves (H.digest worker.old.job.hasher) statement_of K.database.server }
     requires ahead { IsAhead H.digest C.says K.database.server worker.old (seat_state place.old) }
@@ -100,15 +100,14 @@ fn end_session<'a, K: Serving, H: Hash32, C: Clock, G: Gate, R: Wait>(
     requires all { worker.old.taken ≡ length worker.old.job.statements.now }
     requires image { worker.old.image ≡ None }
     ensures place { IsFreed place.old place.new }
-    ensures wrote { OnOk result (HasWritten (says_in C.says worker.old.job) worker.old.job.name.now
+    ensures wrote { HasWritten (says_in C.says worker.old.job) worker.old.job.name.now
         (texts_in worker.old.job.statements.now) (left_of worker.new) (known_by (seat_state place.old))
-        (seat_state place.old).written (seat_state place.new)) }
+        (seat_state place.old).written (seat_state place.new) }
 {
     worker.finish();
-    visit_needed(rt, alloc, gate, board, place, worker)?;
-    worker.leave(alloc)?;
+    visit_to_end(rt, alloc, gate, board, place, worker);
+    worker.leave();
     settle(rt, board, place, worker);
-    Ok(())
 }
 
 /// Runs the session to its end.
@@ -135,21 +134,27 @@ fn carry_out<'a, K: Serving, H: Hash32, C: Clock, G: Gate, R: Wait>(
 {
     let count = worker.job.statements.len();
     run_statements(rt, alloc, gate, number, board, place, worker)?;
-    end_session(rt, alloc, gate, board, place, worker)?;
+    end_session(rt, alloc, gate, board, place, worker);
     gate.pass(number, count as u32);
     Ok(())
 }
 
-/// What the thread of a session has of it.
-fn end_of<H: Hash32, C: Clock>(worker: Worker<'_, H, C>) -> SessionEnd
-    ensures { result ≡ left_of worker.entry }
+/// What the thread of a session has of it, with its last line among the entries.
+fn end_of<H: Hash32, C: Clock>(
+    alloc: Global,
+    worker: Worker<'_, H, C>,
+) -> Result<SessionEnd, Memory>
+    ensures { IfOk result (λ end. end ≡ left_of worker.entry) }
 {
+    let mut session = worker.session;
+    session.write_last(alloc)?;
     let Session {
         seat: _,
         entries,
+        last: _,
         images,
-    } = worker.session;
-    SessionEnd { entries, images }
+    } = session;
+    Ok(SessionEnd { entries, images })
 }
 
 /// Runs the session of a job to its end at an idle seat. The gate is passed behind each of its statements, and
@@ -176,5 +181,5 @@ pub(crate) fn session_job<'a, K: Serving, H: Hash32, C: Clock, G: Gate, R: Wait>
 {
     let mut worker = begin(alloc, job)?;
     carry_out(rt, alloc, gate, number, board, place, &mut worker)?;
-    Ok(end_of(worker))
+    end_of(alloc, worker)
 }
