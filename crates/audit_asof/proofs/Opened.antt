@@ -8,11 +8,11 @@ use Rattle.sql_types.specs.declared.table.TableDef.{TableDef}
 use Rattle.sql_types.specs.declared.version.Table.{Table}
 use Rattle.spec_model.specs.Catalog.{Defs, Tables, defs_of}
 use Rattle.spec_model.specs.Rows.{Row}
+use Rattle.spec_model.specs.Lists.{is_among}
 use Rattle.format_image.specs.DefBytes.{ids_rise}
 use Rattle.format_image.specs.ImageBytes.{IsImage}
 use Rattle.law_catalog_rows.specs.Differs.{is_encoded}
 use Rattle.law_catalog_rows.specs.Encoded.{about}
-use Rattle.law_catalog_rows.specs.IsEncodableDef.{is_among}
 use Rattle.sql_reference.specs.Ids.{IdsRise}
 use Rattle.spec_asof.specs.DatabaseAt.{database_at, first_ids, rows_at, table_at, tables_at, users_at}
 use Rattle.spec_asof.specs.DefTold.{def_told, items_told, last_row, table_told}

@@ -1,7 +1,6 @@
 -- Telling goes on by one item.
-use Rattle.std.proofs.Common.{◌≡◌, ◌<◌, ◌+◌, ℕ, suc, arith, refl, sym, ap, ◌∙◌, Bool, true, false, List, [], ◌∷◌, ◌++◌, length, map, filter, drop, get_or, append_assoc}
+use Rattle.std.proofs.Common.{◌≡◌, ◌<◌, ◌+◌, ℕ, refl, sym, ap, ◌∙◌, Bool, true, false, List, [], ◌∷◌, ◌++◌, length, map, filter, drop, get_or, append_assoc}
 use Rattle.std.specs.Prelude.{if◌then◌else◌, not, ◌==◌}
-use Rattle.std.proofs.Math.Seq.{drop-cons}
 use Rattle.std.proofs.lemmas.List.Elements.{filter_map-append}
 use Rattle.sql_value.specs.declared.column.ColumnDef.{ColumnDef}
 use Rattle.sql_types.specs.declared.table.IndexDef.{IndexDef}
@@ -9,12 +8,8 @@ use Rattle.spec_model.specs.Lists.{numbered}
 use Rattle.spec_model.specs.Rows.{Row}
 use Rattle.spec_model.specs.SystemTables.{index_row}
 use Rattle.spec_asof.specs.DefTold.{column_told, has_row, index_told}
+use Rattle.audit_definitions.proofs.Walks.{from_here}
 use Rattle.audit_asof.specs.Told.{columns_from, parts_from, indexes_from}
-
-from_here : {A : Type 0} (xs : List A) (k : ℕ) (d : A) → k < length xs → drop k xs ≡ get_or xs k d ∷ drop (k + 1) xs
-from_here xs k d lt =
-    let one : k + 1 ≡ suc k = omega arith in
-    rw one (drop-cons xs k d lt)
 
 -- what is told of items, the first of which has this number, where that of each stands by itself
 module _ {A B : Type 0} (told : ℕ → List A → List B) (apart : (n : ℕ) (x : A) (xs : List A) → told n (x ∷ xs) ≡ told n (x ∷ []) ++ told (n + 1) xs) where

@@ -2,7 +2,7 @@
 
 ghost use Rattle.std.specs.Prelude.{◌≡◌, ◌++◌, ◌∷◌, [], IfOk, OnOk};
 ghost use Rattle.audit_definitions.specs.DefinitionRows.{rows_in};
-ghost use Rattle.law_catalog_rows.specs.IsEncodableDef.{is_among};
+ghost use Rattle.spec_model.specs.Lists.{is_among};
 ghost use Rattle.spec_asof.specs.DatabaseAt as spec;
 
 use crate::definitions::def_told;

@@ -8,9 +8,10 @@ use Rattle.spec_verify.specs.Bytes.{verdict_of}
 use Rattle.spec_verify.proofs.Judged.{of_spelling}
 use Rattle.cli_commands.specs.declared.status.Status.{Status}
 use Rattle.audit_extract.specs.declared.found.ImageComparison.{ImageComparison}
+use Rattle.audit_answers.specs.Told.{IsTried}
 use Rattle.cli_commands.specs.declared.extract.Finding.{Finding}
 use Rattle.cli_commands.specs.declared.extract.Finding.TheVariants.{Honest, Suspect, Compared}
-use Rattle.cli_commands.specs.Extract.{AreCompared, IsFoundWith, IsTried, LacksExhibits, finding_status, finding_text}
+use Rattle.cli_commands.specs.Extract.{AreCompared, IsFoundWith, LacksExhibits, finding_status, finding_text}
 use Rattle.cli_commands.specs.Names.{IsInVault, LacksName, image_limit, digests_limit}
 
 -- the verdict on bytes whose image is accepted

@@ -11,11 +11,11 @@ use Rattle.audit_any_receipt.specs.declared.any.AnyReceipt.{AnyReceipt}
 use Rattle.audit_any_receipt.specs.declared.make.Wanted.{Wanted}
 use Rattle.audit_any_receipt.specs.Kinds.{any_bytes}
 use Rattle.audit_any_receipt.specs.Wanted.{HasNoneUnder, IsReceiptUnder}
+use Rattle.audit_answers.specs.Told.{IsTried}
 use Rattle.cli_commands.specs.declared.files.File.{File}
 use Rattle.cli_commands.specs.declared.status.Status.{Status}
 use Rattle.cli_commands.specs.declared.status.Status.TheVariants.{Done, No, Words, Limit, SourceFault, SinkFault, VaultFault, Missing, Digests, Journal, Form, Memory, NotImage, NoEntry, Receipt, TooFar}
 use Rattle.cli_commands.specs.Answer.{HasPut, HasWritten, EndsBy}
-use Rattle.cli_commands.specs.Extract.{IsTried}
 use Rattle.cli_commands.specs.Files.{TellsLeft, TellsHeld, FirstArePut, put_held}
 use Rattle.cli_commands.specs.Receipt.{LacksUnder, IsReceiptOn, LacksShown, HasReceipt, ReceiptCause, receipt_name, receipt_file, receipt_text, Receipted, EndsRefusing, SaysNo, ReceiptedOrIdle, PutsReceipt}
 use Rattle.cli_commands.specs.Verify.{HasSaid, IsJudged}

@@ -1,5 +1,5 @@
 -- What `extract` reads, says and answers.
-use Rattle.std.specs.Prelude.{◌≡◌, ◌⊎◌, ℕ, List, [], ◌∷◌, ◌++◌, codes, Option, IfSome, Result, Ok, Err}
+use Rattle.std.specs.Prelude.{◌≡◌, ◌⊎◌, ℕ, List, [], ◌∷◌, ◌++◌, codes, Option, IfSome, Ok}
 use Rattle.hex.specs.Hex.{encode_lower}
 use Rattle.base_io.specs.Outside.{TellsTaken}
 use Rattle.base_io.specs.Store.{Names}
@@ -7,11 +7,9 @@ use Rattle.sql_types.specs.declared.digest.HeldDigest.{HeldDigest}
 use Rattle.sql_types.specs.declared.image.Image.{Image}
 use Rattle.format_digest.specs.Reading.{IsRead}
 use Rattle.format_image.specs.ImageBytes.{IsImage, IsSpellingOf}
-use Rattle.spec_verify.specs.declared.place.Verdict.{Verdict}
 use Rattle.spec_verify.specs.declared.place.Verdict.TheVariants.{Yes}
 use Rattle.spec_verify.specs.Bytes.{verdict_of}
 use Rattle.spec_verify.specs.Line.{verdict_line}
-use Rattle.spec_verify.specs.Verdict.{image_verdict}
 use Rattle.audit_extract.specs.declared.found.ImageComparison.{ImageComparison}
 use Rattle.audit_extract.specs.declared.found.ImageComparison.TheVariants.{Same, Collision}
 use Rattle.audit_extract.specs.Each.{AgreeOnEach}
@@ -44,11 +42,6 @@ LacksExhibits status honest suspect digests names =
     × LacksName status 3 digests_limit names digests))
 
 -- ---- what is found
-
--- the image that some bytes are, which is accepted, or the verdict on them, which isn't Yes
-abbrev pub IsTried : (List ℕ → List ℕ) → List HeldDigest → List ℕ → Result Image Verdict → Type 0
-IsTried h held bytes (Ok i) = IsImage i × IsSpellingOf bytes i × (image_verdict h i held ≡ Yes)
-IsTried h held bytes (Err verdict) = (verdict ≡ Yes → ⊥) × (verdict ≡ verdict_of h held bytes)
 
 -- both are accepted: of the images that they are, this is what the extractor answers with all the digests
 pub record AreCompared (h : List ℕ → List ℕ) (held : List HeldDigest) (a b : List ℕ)

@@ -5,7 +5,7 @@ ghost use Rattle.base_io.specs.Count.{Rises};
 ghost use Rattle.base_io.specs.History.{Since};
 ghost use Rattle.cli_commands.specs.Answer.{Unfailed};
 ghost use Rattle.cli_commands.specs.Calls.{AreGets, Gave, AreWrites};
-ghost use Rattle.cli_commands.specs.Extract.{AreExhibits, LacksExhibits, IsTried, IsFoundWith, IsFoundOn, IsFound};
+ghost use Rattle.cli_commands.specs.Extract.{AreExhibits, LacksExhibits, IsFoundWith, IsFoundOn, IsFound};
 ghost use Rattle.cli_commands.specs.Extract.{LacksFinding, ExtractCause, Extracts, finding_status, finding_text};
 ghost use Rattle.cli_commands.specs.Verify.{AreRefused, SaidOrIdle};
 
@@ -13,14 +13,13 @@ use crate::Status;
 use crate::names::{DIGESTS_LIMIT, IMAGE_LIMIT, read_name};
 use crate::transfer::write_all;
 use crate::verify::read_held;
+use audit_answers::accepted;
 use audit_extract::{Collision, ImageComparison, extract_each};
-use audit_verify::verify_image;
 use base_io::{Failed, Sink, Vault};
 use base_merkle::Hash32;
 use base_types::Memory;
-use format_image::read_image;
-use spec_verify::{Invariant, Place, Verdict};
-use sql_types::{HeldDigest, Image};
+use spec_verify::Verdict;
+use sql_types::HeldDigest;
 use std::alloc::{AllocError, Global};
 
 /// What is found of two images.
@@ -71,25 +70,6 @@ fn read_exhibits<V: Vault>(
         suspect,
         digests,
     })
-}
-
-/// The image that some bytes are, where it is accepted with the digests, and else the verdict on them.
-pub(crate) fn accepted<H: Hash32>(
-    alloc: Global,
-    h: H,
-    bytes: &[u8],
-    digests: &[HeldDigest],
-) -> Result<Result<Image, Verdict>, Memory>
-    ensures { IfOk result (IsTried (H.digest h) digests.now bytes.now) }
-{
-    let Some(image) = read_image(alloc, bytes)? else {
-        return Ok(Err(Verdict::No(Invariant::V0, Place::Whole)));
-    };
-    let verdict = verify_image(alloc, h, &image, digests)?;
-    match verdict {
-        Verdict::Yes => Ok(Ok(image)),
-        Verdict::No(invariant, place) => Ok(Err(Verdict::No(invariant, place))),
-    }
 }
 
 /// What is found of two images with some digests. The suspect one is looked at where the honest one is

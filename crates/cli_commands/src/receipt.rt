@@ -15,12 +15,12 @@ ghost use Rattle.cli_commands.specs.Receipt.{ReceiptCause, receipt_file, receipt
 ghost use Rattle.cli_commands.specs.Receipt.{ReceiptedOrIdle, PutsReceipt};
 ghost use Rattle.cli_commands.specs.Words.{wanted_of};
 
-use crate::extract::accepted;
 use crate::files::{File, put_and_write};
 use crate::saved::file;
 use crate::transfer::write_all;
 use crate::verify::{read_evidence, read_held};
 use crate::{Status, verify};
+use audit_answers::accepted;
 use audit_any_receipt::{
     AnyReceipt, ReceiptErr, Wanted, first_block, last_block, make_any, write_any,
 };

@@ -13,7 +13,7 @@ use Rattle.spec_model.specs.Journals.{cut, upto, IsOther, after_item, serial_fro
 use Rattle.spec_model.specs.Rows.{EventId}
 use Rattle.spec_model.specs.Script.{Reading}
 use Rattle.spec_model.specs.SystemTables.{first_tables}
-use Rattle.law_catalog_rows.specs.IsEncodableDef.{is_among}
+use Rattle.spec_model.specs.Lists.{is_among}
 use Rattle.law_journal.specs.Kept.{IsEarlier}
 use Rattle.law_journal.specs.Serial.{place_in, HasTx, IsOf, TableOf}
 use Rattle.law_journal.proofs.Serials.{legal_tables, legal_described}

@@ -6,7 +6,7 @@ use Rattle.sql_types.specs.declared.statement.Stmt.TheVariants as s
 use Rattle.spec_model.specs.Catalog.{Tables}
 use Rattle.spec_model.specs.Effect.{effect}
 use Rattle.spec_model.specs.SystemTables.{first_tables}
-use Rattle.law_catalog_rows.specs.IsEncodableDef.{is_among}
+use Rattle.spec_model.specs.Lists.{is_among}
 use Rattle.format_image.specs.Image.{user_defs}
 use Rattle.format_image.specs.Rows.{filled_table, table_rows}
 use Rattle.test_samples.specs.Samples.{create_t, add_to_t, drop_of_t, insert, num}

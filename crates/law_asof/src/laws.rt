@@ -7,7 +7,7 @@ ghost use Rattle.spec_history.specs.Journals.{ids_of};
 ghost use Rattle.spec_model.specs.Catalog.{versions_of};
 ghost use Rattle.spec_model.specs.Journals.{cut, upto, serial, IsLegal};
 ghost use Rattle.spec_model.specs.Script.{Reading};
-ghost use Rattle.law_catalog_rows.specs.IsEncodableDef.{is_among};
+ghost use Rattle.spec_model.specs.Lists.{is_among};
 ghost use Rattle.format_image.specs.Image.{image_of};
 ghost use Rattle.format_image.specs.Rows.{filled_version, table_rows};
 ghost use Rattle.spec_asof.specs.DatabaseAt.{first_ids, left_of, versions_at};

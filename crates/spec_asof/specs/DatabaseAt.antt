@@ -8,11 +8,10 @@ use Rattle.sql_types.specs.declared.table.TableDef.{TableDef}
 use Rattle.sql_types.specs.declared.version.Table.{Table}
 use Rattle.sql_types.specs.declared.version.Version.{Version}
 use Rattle.spec_model.specs.Catalog.{Defs, Tables}
-use Rattle.spec_model.specs.Lists.{sorted}
+use Rattle.spec_model.specs.Lists.{is_among, sorted}
 use Rattle.spec_model.specs.Rows.{EventId, Row, start_cmp, values_of}
 use Rattle.spec_model.specs.SystemTables.{tables_def, columns_def}
 use Rattle.law_catalog_rows.specs.Differs.{is_encoded}
-use Rattle.law_catalog_rows.specs.IsEncodableDef.{is_among}
 use Rattle.spec_asof.specs.DefTold.{def_told}
 
 -- ---- versions, where `has` says which transactions count

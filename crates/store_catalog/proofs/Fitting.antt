@@ -1,5 +1,5 @@
 -- The rows of a new table and of a new index fit the tables of the system.
-use Rattle.std.proofs.Common.{◌≡◌, ◌≤◌, ◌<◌, ℕ, suc, ◌+◌, ◌*◌, refl, subst, ap, ◌∙◌, List, [], ◌∷◌, map, length, Ok, arith}
+use Rattle.std.proofs.Common.{◌≡◌, ◌≤◌, ◌<◌, ℕ, ◌+◌, ◌*◌, subst, ◌∙◌, List, [], ◌∷◌, map, length, Ok, arith}
 use Rattle.std.proofs.lemmas.List.{length-map}
 use Rattle.std.specs.List.{AllByRecursion}
 use Rattle.sql_value.specs.declared.column.ColumnDef.{ColumnDef}
@@ -12,6 +12,7 @@ use Rattle.spec_model.specs.Effect.{column_starts, index_starts, table_start}
 use Rattle.spec_model.specs.Lists.{numbered}
 use Rattle.spec_model.specs.Rows.{Row, stored_row}
 use Rattle.spec_model.specs.SystemTables.{column_row, column_rows, columns_columns, index_row, index_rows, tables_columns}
+use Rattle.law_frame.proofs.ChangeSets.{length-numbered as length_numbered}
 use Rattle.law_journal.specs.Described.{InRange}
 use Rattle.law_journal.specs.Fits.{Fits}
 use Rattle.law_journal.proofs.Created.{Created, Indexed, indexed}
@@ -72,10 +73,6 @@ of_index defs c def index formed e =
     low few (o ∷ os) h = (omega (arith, h.0, few), low few os h.1)
 
 -- ---- how many there are
-
-length_numbered : {A : Type 0} (n : ℕ) (xs : List A) → length (numbered n xs) ≡ length xs
-length_numbered n [] = refl
-length_numbered n (x ∷ xs) = ap suc (length_numbered (n + 1) xs)
 
 pub length_columns : (def : TableDef) → length (column_starts (column_rows def)) ≡ length def.columns
 unfolding column_rows

@@ -1,8 +1,8 @@
 use Rattle.std.proofs.Common.{◌≡◌, ◌∙◌, [], ap, false, sym, true}
 use Rattle.sql_types.specs.declared.table.TableDef.{TableDef}
+use Rattle.spec_model.specs.Lists.{is_among}
 use Rattle.audit_definitions.specs.DefinitionRows.{rows_in}
 use Rattle.law_catalog_rows.specs.Differs.{is_encoded}
-use Rattle.law_catalog_rows.specs.IsEncodableDef.{is_among}
 use Rattle.spec_asof.specs.DatabaseAt.{table_at}
 use Rattle.spec_asof.specs.DefTold.{def_told}
 use Rattle.audit_asof.proofs.Users.{added, passed}
