@@ -3,6 +3,7 @@ pub mod Ends
 pub mod Kept
 pub mod Made
 pub mod Orders
+pub mod Owners
 pub mod Stopping
 pub mod Stored
 pub mod Undoing
