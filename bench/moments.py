@@ -1,11 +1,12 @@
 #!/usr/bin/env python3
 """Tries `asof` at each moment of random scripts.
 
-    moments.py PROGRAM [SCRIPTS [SEED]]   SCRIPTS random scripts (1) from SEED (3) on, of some 60 transactions each, whose ids
+    moments.py PROGRAM [SCRIPTS [SEED]]   SCRIPTS random scripts (1) from SEED (3) on, of some 50 transactions each, whose ids
                                           don't follow the order of their commits, with later tables and indexes, columns that
-                                          are added and dropped, tables that are dropped, rows that end in their own transaction
-                                          and savepoints that are taken back. At each number n of transactions `asof` of the last image has to answer what `asof` answers of the
-                                          image to which `replay` of the first n transactions leads
+                                          are added and dropped, dropped tables, rows that end in their own transaction and
+                                          savepoints that are taken back. At each number n of transactions `asof` of the last
+                                          image has to answer what `asof` answers of the image to which `replay` of the first n
+                                          transactions leads
 
 Folders are made below the system's for temporary files; that of a script that fails stays.
 """
@@ -31,7 +32,7 @@ def script(choice):
     """The lines of an input of `step`, and how many tables it makes at most."""
     yield "a: CREATE TABLE t0 (id INT PRIMARY KEY, v NVARCHAR(9))"
     names = 1
-    for i in range(45):
+    for i in range(60):
         kind, table = choice.random(), choice.randrange(names)
         if kind < .1 and names < 8:
             options = choice.choice(["", " WITH (LEDGER = ON (APPEND_ONLY = ON))"])
@@ -39,12 +40,12 @@ def script(choice):
             names += 1
         elif kind < .2:
             yield f"a: CREATE INDEX x{i} ON t{table} (v{choice.choice(['', ', id'])})"
-        elif kind < .27:
+        elif kind < .26:
             yield f"a: ALTER TABLE t{table} ADD w{i} {choice.choice(['INT', 'NVARCHAR(9)'])}"
             yield f"a: UPDATE t{table} SET w{i} = NULL"
-        elif kind < .32:
+        elif kind < .29:
             yield f"a: ALTER TABLE t{table} DROP COLUMN {choice.choice(['v', f'w{choice.randrange(i + 1)}'])}"
-        elif kind < .34:
+        elif kind < .3:
             yield f"a: DROP TABLE t{table}"
         elif kind < .5:
             yield f"a: INSERT INTO t{table} (id, v) VALUES ({i}, 'x{i}'), ({i + 100}, NULL)"
