@@ -18,7 +18,7 @@ use Rattle.spec_model.specs.Runs.{Rising}
 use Rattle.law_frame.proofs.Sounds.{event_total, start_total}
 use Rattle.law_frame.proofs.Alls.{all_weaker}
 use Rattle.law_journal.proofs.Counts.{NoStart, ended_cons, same_none, same_parts}
-use Rattle.sql_apply.specs.Places.{place, starts_before}
+use Rattle.store_table.specs.Places.{place, starts_before}
 
 -- ---- a start
 
