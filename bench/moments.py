@@ -1,11 +1,12 @@
 #!/usr/bin/env python3
 """Tries `asof` at each moment of random scripts.
 
-    moments.py PROGRAM [SCRIPTS [SEED]]   SCRIPTS random scripts (1) from SEED (3) on, of some 60 transactions each, whose ids
-                                          don't follow the order of their commits, with later tables and indexes, rows that
-                                          end in their own transaction and savepoints that are taken back. At each number n
-                                          of transactions `asof` of the last image has to answer what `asof` answers of the
-                                          image to which `replay` of the first n transactions leads
+    moments.py PROGRAM [SCRIPTS [SEED]]   SCRIPTS random scripts (1) from SEED (3) on, of some 50 transactions each, whose ids
+                                          don't follow the order of their commits, with later tables and indexes, columns that
+                                          are added and dropped, dropped tables, rows that end in their own transaction and
+                                          savepoints that are taken back. At each number n of transactions `asof` of the last
+                                          image has to answer what `asof` answers of the image to which `replay` of the first n
+                                          transactions leads
 
 Folders are made below the system's for temporary files; that of a script that fails stays.
 """
@@ -31,7 +32,7 @@ def script(choice):
     """The lines of an input of `step`, and how many tables it makes at most."""
     yield "a: CREATE TABLE t0 (id INT PRIMARY KEY, v NVARCHAR(9))"
     names = 1
-    for i in range(45):
+    for i in range(60):
         kind, table = choice.random(), choice.randrange(names)
         if kind < .1 and names < 8:
             options = choice.choice(["", " WITH (LEDGER = ON (APPEND_ONLY = ON))"])
@@ -39,17 +40,24 @@ def script(choice):
             names += 1
         elif kind < .2:
             yield f"a: CREATE INDEX x{i} ON t{table} (v{choice.choice(['', ', id'])})"
+        elif kind < .26:
+            yield f"a: ALTER TABLE t{table} ADD w{i} {choice.choice(['INT', 'NVARCHAR(9)'])}"
+            yield f"a: UPDATE t{table} SET w{i} = NULL"
+        elif kind < .29:
+            yield f"a: ALTER TABLE t{table} DROP COLUMN {choice.choice(['v', f'w{choice.randrange(i + 1)}'])}"
+        elif kind < .3:
+            yield f"a: DROP TABLE t{table}"
         elif kind < .5:
-            yield f"a: INSERT INTO t{table} VALUES ({i}, 'x{i}'), ({i + 100}, NULL)"
+            yield f"a: INSERT INTO t{table} (id, v) VALUES ({i}, 'x{i}'), ({i + 100}, NULL)"
         elif kind < .7:
             yield f"b: UPDATE t{table} SET v = 'y{i}' WHERE id < {i}"
         elif kind < .8:
             yield f"b: DELETE FROM t{table} WHERE id < {choice.randrange(30)}"
         elif kind < .9:
             yield "c: BEGIN TRANSACTION"
-            yield f"c: INSERT INTO t0 VALUES ({1000 + i}, N'a')"
+            yield f"c: INSERT INTO t0 (id) VALUES ({1000 + i})"
             yield "b: BEGIN TRANSACTION"
-            yield f"b: INSERT INTO t{table} VALUES ({2000 + i}, N'b')"
+            yield f"b: INSERT INTO t{table} (id) VALUES ({2000 + i})"
             yield "c: SAVE TRANSACTION s"
             yield f"c: UPDATE t0 SET v = NULL WHERE id = {1000 + i}"
             yield "c: ROLLBACK TRANSACTION s"
@@ -68,6 +76,7 @@ def texts():
         yield f"SELECT * FROM t{n}"
         yield f"SELECT * FROM t{n}_Ledger"
         yield f"SELECT * FROM MSSQL_LedgerHistoryFor_{n + 3}"
+        yield f"SELECT * FROM MSSQL_DroppedLedgerTable_t{n}_{n + 3}"
         yield f"SELECT v, id FROM t{n} WHERE v IS NOT NULL ORDER BY v DESC"
         yield f"SELECT COUNT(*) FROM t{n} WHERE id = 5"
 

@@ -55,6 +55,16 @@ b: UPDATE p SET x = 0x01, w = NULL
 b: CREATE INDEX qs ON q (s)
 a: EXECUTE sp_generate_database_ledger_digest
 a: DELETE FROM p WHERE n = 2
+a: ALTER TABLE p ADD y NVARCHAR(3)
+a: UPDATE p SET y = 'neu'
+a: ALTER TABLE p DROP COLUMN d
+a: INSERT INTO p VALUES (3, 'c', NULL, NULL, NULL, NULL, NULL)
+a: ALTER TABLE q DROP COLUMN s
+b: ALTER TABLE q ADD s INT
+b: INSERT INTO q VALUES (5, 5)
+a: DROP TABLE r
+a: EXECUTE sp_generate_database_ledger_digest
+b: ALTER TABLE q ADD u BIT
 """
 
 

@@ -1435,7 +1435,7 @@ impl Server {
     }
 
     fn journal(&self) -> Vec<u8> {
-        let mut out = b"LGJN\x01".to_vec();
+        let mut out = b"LGJN\x02".to_vec();
         put_short(&self.database, &mut out);
         out.extend_from_slice(&(self.items.len() as u64).to_be_bytes());
         for item in &self.items {

@@ -4,6 +4,9 @@
     sides.py runs PROGRAM [TIMES [COUNT]]   TIMES runs (1,000) of 8 sessions that change the same rows while blocks are
                                             closed, COUNT statements (20) each; `verify` has to accept each image that
                                             a run saved with its digests, and `replay` to lead to the last of them
+    sides.py columns PROGRAM [TIMES [COUNT]]  the same of 3 sessions that insert, update and read while a fourth adds
+                                            columns to their table and drops them; what a SELECT that is a transaction
+                                            of its own shows, `asof` has to show at the place of its end line
     sides.py cost PROGRAM [ROUNDS]          4 sessions on 4 tables, the same statements by `step` and by `run` in
                                             turns: seconds by the clock, the least of ROUNDS (5)
 
@@ -49,6 +52,40 @@ def contention(count, seed):
                 "BEGIN TRANSACTION", "COMMIT", "ROLLBACK", DIGEST, "SAVE IMAGE"])
 
 
+def altering(count, seed):
+    """Three sessions that change and read one table, while another adds columns to it and drops them, again and again
+    until no lock is in the way."""
+    yield "-- setup"
+    yield "CREATE TABLE a (id INT PRIMARY KEY, v INT)"
+    yield "INSERT INTO a VALUES (0, 0), (1, 0)"
+    source = random.Random(seed)
+    yield "-- session s0"
+    for n in range(count):
+        change = source.choice([f"ADD w{n % 7} INT", f"ADD w{n % 7} NVARCHAR(5)", f"DROP COLUMN w{(n + 4) % 7}"])
+        yield from [f"ALTER TABLE a {change}"] * 5
+    for session in range(1, 4):
+        yield f"-- session s{session}"
+        for n in range(count):
+            row, column, new = source.randrange(2), f"w{source.randrange(7)}", 100 * session + n
+            yield from source.choice([
+                [f"UPDATE a SET v = v + 1 WHERE id = {row}"], [f"UPDATE a SET {column} = NULL, v = v + 1"],
+                [f"INSERT INTO a (id, v) VALUES ({new}, 0)"], [f"INSERT INTO a (id, {column}) VALUES ({new}, NULL)"],
+                [f"DELETE FROM a WHERE id = {new - 1}"],
+                ["SELECT * FROM a"], [f"SELECT * FROM a WHERE id = {row}"], [f"SELECT id, {column}, v FROM a"],
+                ["SELECT * FROM a_Ledger"], ["SELECT * FROM MSSQL_LedgerHistoryFor_3"], [DIGEST], ["SAVE IMAGE"],
+                ["BEGIN TRANSACTION", f"INSERT INTO a (id) VALUES ({new})", "SAVE TRANSACTION p",
+                 f"UPDATE a SET v = 1 WHERE id = {new}", "ROLLBACK TRANSACTION p", "COMMIT"]])
+
+
+def reads_of(transcript):
+    """Of each SELECT that was a transaction of its own and met no lock: how many were committed, and its entry."""
+    for entry in re.findall(r"^\w+: (SELECT .*\n(?:  .*\n)+)", transcript, re.MULTILINE):
+        lines = entry.split("\n")[:-1]
+        ended = re.fullmatch(r"  ended \d+ after (\d+)", lines[-1])
+        if ended and not lines[1].startswith("  E20"):
+            yield int(ended[1]), lines[:-1]
+
+
 def verdict(program, folder, image):
     """What `verify` says of an image: of the last one with all digests, of another with those whose blocks it has."""
     _, said = call(program, folder, "verify", image, "side.digests")
@@ -63,7 +100,7 @@ def verdict(program, folder, image):
 def fault_of(program, folder, lines):
     """What is wrong with one run, if anything is."""
     try:
-        status, _ = call(program, folder, "run", "--save", "side", "--block-size", "3", lines=lines)
+        status, transcript = call(program, folder, "run", "--save", "side", "--block-size", "3", lines=lines)
         if status != 0:
             return f"run ended with {status}"
         for image in sorted(os.path.basename(p) for p in glob.glob(f"{folder}/side*.img")):
@@ -76,16 +113,19 @@ def fault_of(program, folder, lines):
             with open(f"{folder}/side.{end}", "rb") as first, open(f"{folder}/again.{end}", "rb") as second:
                 if first.read() != second.read():
                     return f"replay leads to another {end}"
+        for place, entry in reads_of(transcript):
+            if call(program, folder, "asof", "side.img", str(place), lines=entry[:1])[1].splitlines() != entry:
+                return f"asof {place} answers {entry[0]} otherwise"
     except subprocess.TimeoutExpired:
         return "it hangs"
     return None
 
 
-def runs(program, times=1000, count=20):
+def runs(program, times=1000, count=20, statements=contention):
     failed = 0
     for n in range(times):
         folder = tempfile.mkdtemp(prefix="sides-")
-        fault = fault_of(program, folder, list(contention(count, n)))
+        fault = fault_of(program, folder, list(statements(count, n)))
         if fault is None:
             shutil.rmtree(folder)
         else:
@@ -93,6 +133,10 @@ def runs(program, times=1000, count=20):
             print(f"run {n}: {fault} ({folder})")
     print(f"{times} runs, {failed} failed")
     return failed
+
+
+def columns(program, times=1000, count=20):
+    return runs(program, times, count, altering)
 
 
 def one_row(session):
@@ -131,7 +175,7 @@ def cost(program, rounds=5):
 
 
 if __name__ == "__main__":
-    if len(sys.argv) < 3 or sys.argv[1] not in ("runs", "cost"):
+    if len(sys.argv) < 3 or sys.argv[1] not in ("runs", "columns", "cost"):
         sys.exit(__doc__)
-    what = {"runs": runs, "cost": cost}[sys.argv[1]]
+    what = {"runs": runs, "columns": columns, "cost": cost}[sys.argv[1]]
     sys.exit(1 if what(os.path.abspath(sys.argv[2]), *map(int, sys.argv[3:])) else 0)

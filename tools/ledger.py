@@ -384,7 +384,8 @@ def read_event_id(source: Reader) -> EventId:
 def read_journal(data: bytes) -> tuple[str, list]:
     """Section "Journal": the database, and the items: transactions, and for each closing how many it takes."""
     source = Reader(data)
-    need(source.take(5) in (b"LGJN\1", b"LGJN\2"), "not a journal")
+    need(source.take(4) == b"LGJN", "not a journal")
+    source.number(1, 1, 2)  # which statements a server may have read
     database, items, ids, pending = source.text(2, DATABASE), [], set(), 0
     for _ in range(source.number(8)):
         if source.number(1, 1, 2) == 1:

@@ -34,7 +34,7 @@ pub enum AnswersErr {
 }
 
 /// The image that some bytes are, where it is accepted with the digests, and else the verdict on them.
-fn accepted<H: Hash32>(
+pub fn accepted<H: Hash32>(
     alloc: Global,
     h: H,
     bytes: &[u8],

@@ -3,4 +3,4 @@
 
 mod answering;
 
-pub use answering::{Answers, AnswersErr, answer_texts};
+pub use answering::{Answers, AnswersErr, accepted, answer_texts};

@@ -9,7 +9,7 @@ use Rattle.std.proofs.lemmas.Bool.{cases_lt, eq-eqb, ne_eqb}
 use Rattle.std.proofs.lemmas.List.{get_or_default}
 use Rattle.std.proofs.lemmas.List.Folds.{list_any_at, list_any_none}
 use Rattle.std.proofs.lemmas.List.Sorted.{IsNonDecreasingBy-from_sort, list_any-IsPermutation, searched}
-use Rattle.law_catalog_rows.specs.IsEncodableDef.{is_among}
+use Rattle.spec_model.specs.Lists.{is_among}
 
 pub rising : (ids : List ℕ) → IsSorted nat_cmp ids → IsNonDecreasing ids
 rising ids h = IsNonDecreasingBy-from_sort (λ (n : ℕ). n) ids h

@@ -1,3 +1,4 @@
+pub mod DefIs
 mod Found
 pub mod Kept
 pub mod Opened

@@ -1,5 +1,5 @@
 -- Tables whose ids rise, and transactions that are counted alike.
-use Rattle.std.proofs.Common.{◌≡◌, ◌<◌, ℕ, Bool, true, false, refl, sym, ap, subst, ◌∙◌, List, [], ◌∷◌, map, take, arith}
+use Rattle.std.proofs.Common.{◌≡◌, ◌<◌, ℕ, pos, Bool, true, false, refl, sym, ap, subst, ◌∙◌, List, [], ◌∷◌, map, take, Option, Some, None, arith}
 use Rattle.std.specs.Prelude.{if◌then◌else◌, nat_lt}
 use Rattle.std.proofs.lemmas.Bool.{and_parts, ltb-true}
 use Rattle.sql_types.specs.declared.image.Image.{Image}
@@ -8,12 +8,14 @@ use Rattle.sql_types.specs.declared.table.TableDef.{TableDef}
 use Rattle.sql_types.specs.declared.version.Table.{Table}
 use Rattle.spec_model.specs.Catalog.{Defs, Tables, defs_of}
 use Rattle.spec_model.specs.Rows.{Row}
+use Rattle.spec_model.specs.Lists.{is_among}
 use Rattle.format_image.specs.DefBytes.{ids_rise}
 use Rattle.format_image.specs.ImageBytes.{IsImage}
 use Rattle.law_catalog_rows.specs.Differs.{is_encoded}
-use Rattle.law_catalog_rows.specs.IsEncodableDef.{is_among}
+use Rattle.law_catalog_rows.specs.Encoded.{about}
 use Rattle.sql_reference.specs.Ids.{IdsRise}
-use Rattle.spec_asof.specs.DatabaseAt.{database_at, first_ids, rows_at, table_at, tables_at, users_at, def_told}
+use Rattle.spec_asof.specs.DatabaseAt.{database_at, first_ids, rows_at, table_at, tables_at, users_at}
+use Rattle.spec_asof.specs.DefTold.{def_told, items_told, last_row, table_told}
 
 -- ---- ids
 
@@ -21,9 +23,13 @@ lower : (m n : ℕ) (defs : Defs) → m < n → IdsRise n defs → IdsRise m def
 lower m n [] lt h = tt
 lower m n (d ∷ ds) lt h = (omega (arith, lt, h.0), h.1)
 
-told_id : (second : List Row) (def : TableDef) → (def_told second def).id ≡ def.id
+said_id : (row : Option Row) (def : TableDef) → (table_told row def).id ≡ def.id
+said_id None def = refl
+said_id (Some row) def = refl
+
+told_id : (first second : List Row) (def : TableDef) → (def_told first second def).id ≡ def.id
 unfolding def_told
-told_id second def = refl
+told_id first second def = said_id (last_row 0 (pos def.id) (about (pos def.id) first)) (items_told (about (pos def.id) second) def)
 
 with_one : (b : Bool) (last : ℕ) (def : TableDef) (t : Table) (rest : Tables) → t.def.id ≡ def.id → last < def.id → IdsRise def.id (defs_of rest)
     → IdsRise last (defs_of (if b then t ∷ rest else rest))
@@ -36,8 +42,8 @@ users_rise has first second last [] rows rise = tt
 users_rise has first second last (def ∷ defs) [] rise = tt
 users_rise has first second last (def ∷ defs) (r ∷ rs) rise =
     let parts = and_parts (nat_lt last def.id) (ids_rise def.id defs) rise in
-    with_one (is_encoded first second [] (def_told second def)) last def (table_at has (def_told second def) r) (users_at has first second defs rs)
-    (told_id second def) (ltb-true last def.id parts.0) (users_rise has first second def.id defs rs parts.1)
+    with_one (is_encoded first second [] (def_told first second def)) last def (table_at has (def_told first second def) r) (users_at has first second defs rs)
+    (told_id first second def) (ltb-true last def.id parts.0) (users_rise has first second def.id defs rs parts.1)
 
 tables_rise : (has : ℕ → Bool) (defs : Defs) (rows : List TableRows) → ids_rise 2 defs ≡ true → IdsRise 0 (defs_of (tables_at has defs rows))
 tables_rise has defs [] rise = tt

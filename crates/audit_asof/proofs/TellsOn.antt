@@ -1,19 +1,15 @@
 -- Telling goes on by one item.
-use Rattle.std.proofs.Common.{◌≡◌, ◌<◌, ◌+◌, ℕ, suc, arith, refl, sym, ap, ◌∙◌, Bool, true, false, List, [], ◌∷◌, ◌++◌, length, map, filter, drop, get_or, append_assoc}
+use Rattle.std.proofs.Common.{◌≡◌, ◌<◌, ◌+◌, ℕ, refl, sym, ap, ◌∙◌, Bool, true, false, List, [], ◌∷◌, ◌++◌, length, map, filter, drop, get_or, append_assoc}
 use Rattle.std.specs.Prelude.{if◌then◌else◌, not, ◌==◌}
-use Rattle.std.proofs.Math.Seq.{drop-cons}
+use Rattle.std.proofs.lemmas.List.Elements.{filter_map-append}
 use Rattle.sql_value.specs.declared.column.ColumnDef.{ColumnDef}
 use Rattle.sql_types.specs.declared.table.IndexDef.{IndexDef}
 use Rattle.spec_model.specs.Lists.{numbered}
 use Rattle.spec_model.specs.Rows.{Row}
-use Rattle.spec_model.specs.SystemTables.{column_row, index_row}
-use Rattle.spec_asof.specs.DatabaseAt.{has_row, index_told}
+use Rattle.spec_model.specs.SystemTables.{index_row}
+use Rattle.spec_asof.specs.DefTold.{column_told, has_row, index_told}
+use Rattle.audit_definitions.proofs.Walks.{from_here}
 use Rattle.audit_asof.specs.Told.{columns_from, parts_from, indexes_from}
-
-from_here : {A : Type 0} (xs : List A) (k : ℕ) (d : A) → k < length xs → drop k xs ≡ get_or xs k d ∷ drop (k + 1) xs
-from_here xs k d lt =
-    let one : k + 1 ≡ suc k = omega arith in
-    rw one (drop-cons xs k d lt)
 
 -- what is told of items, the first of which has this number, where that of each stands by itself
 module _ {A B : Type 0} (told : ℕ → List A → List B) (apart : (n : ℕ) (x : A) (xs : List A) → told n (x ∷ xs) ≡ told n (x ∷ []) ++ told (n + 1) xs) where
@@ -39,12 +35,12 @@ kept_by : {A : Type 0} (x : A) (xs : List A) (b : Bool) → (if b then x ∷ xs 
 kept_by x xs true = refl
 kept_by x xs false = refl
 
-module _ (rows : List Row) (id : ℕ) where
-  pub columns_go_on : (xs : List ColumnDef) (k : ℕ) (x : ColumnDef) (before after all : List ColumnDef) → k < length xs → x ≡ get_or xs k x
-      → after ≡ before ++ columns_from rows id (k + 1) (x ∷ []) → before ++ columns_from rows id (k + 1) (drop k xs) ≡ all
-      → after ++ columns_from rows id (k + 1 + 1) (drop (k + 1) xs) ≡ all
-  columns_go_on = goes_on (columns_from rows id) (λ n x xs. first_by (λ (c : ℕ × ColumnDef). c.1) (n, x) (filter (λ c. has_row rows (column_row id c)) (numbered (n + 1) xs)) (has_row rows (column_row id (n, x))))
+pub columns_go_on : (rows : List Row) (xs : List ColumnDef) (k : ℕ) (x : ColumnDef) (before after all : List ColumnDef) → k < length xs → x ≡ get_or xs k x
+    → after ≡ before ++ columns_from rows (k + 1) (x ∷ []) → before ++ columns_from rows (k + 1) (drop k xs) ≡ all
+    → after ++ columns_from rows (k + 1 + 1) (drop (k + 1) xs) ≡ all
+columns_go_on rows = goes_on (columns_from rows) (λ n x xs. filter_map-append (column_told rows) ((n, x) ∷ []) (numbered (n + 1) xs))
 
+module _ (rows : List Row) (id : ℕ) where
   pub indexes_go_on : (xs : List IndexDef) (k : ℕ) (x : IndexDef) (before after all : List IndexDef) → k < length xs → x ≡ get_or xs k x
       → after ≡ before ++ indexes_from rows id (k + 1) (x ∷ []) → before ++ indexes_from rows id (k + 1) (drop k xs) ≡ all
       → after ++ indexes_from rows id (k + 1 + 1) (drop (k + 1) xs) ≡ all

@@ -7,7 +7,8 @@ use Rattle.sql_types.specs.declared.version.Table.{Table}
 use Rattle.spec_model.specs.Catalog.{Defs, Tables}
 use Rattle.spec_model.specs.Rows.{Row}
 use Rattle.law_catalog_rows.specs.Differs.{is_encoded}
-use Rattle.spec_asof.specs.DatabaseAt.{def_told, table_at, users_at}
+use Rattle.spec_asof.specs.DatabaseAt.{table_at, users_at}
+use Rattle.spec_asof.specs.DefTold.{def_told}
 
 one_more : (b : Bool) (t : Table) (rest : Tables) → (if b then t ∷ rest else rest) ≡ (if b then t ∷ [] else []) ++ rest
 one_more true t rest = refl
@@ -19,8 +20,8 @@ module _ (has : ℕ → Bool) (first second : List Row) where
       → before ++ users_at has first second (def ∷ defs) (rows ∷ more) ≡ all
       → after ++ users_at has first second defs more ≡ all
   go_on before after all def rows defs more e so =
-      let b : Bool = is_encoded first second [] (def_told second def) in
-      let t : Table = table_at has (def_told second def) rows in
+      let b : Bool = is_encoded first second [] (def_told first second def) in
+      let t : Table = table_at has (def_told first second def) rows in
       ap (λ (T : Tables). T ++ users_at has first second defs more) e
       ∙ append_assoc before (if b then t ∷ [] else []) (users_at has first second defs more)
       ∙ ap (λ (T : Tables). before ++ T) (sym (one_more b t (users_at has first second defs more)))

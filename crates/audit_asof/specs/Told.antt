@@ -1,16 +1,15 @@
 -- Definitions that are told one column, one index and one part after another, the first of which has this number.
 use Rattle.std.specs.Prelude.{ℕ, ◌==◌, not, List, map, length}
-use Rattle.std.specs.List.{filter}
+use Rattle.std.specs.List.{filter, filter_map}
 use Rattle.sql_value.specs.declared.column.ColumnDef.{ColumnDef}
 use Rattle.sql_types.specs.declared.table.IndexDef.{IndexDef}
 use Rattle.spec_model.specs.Lists.{numbered}
 use Rattle.spec_model.specs.Rows.{Row}
-use Rattle.spec_model.specs.SystemTables.{column_row, index_row}
-use Rattle.spec_asof.specs.DatabaseAt.{has_row, index_told}
+use Rattle.spec_model.specs.SystemTables.{index_row}
+use Rattle.spec_asof.specs.DefTold.{column_told, has_row, index_told}
 
-abbrev pub columns_from : List Row → ℕ → ℕ → List ColumnDef → List ColumnDef
-columns_from rows id n columns =
-    map (λ c. c.1) (filter (λ c. has_row rows (column_row id c)) (numbered n columns))
+abbrev pub columns_from : List Row → ℕ → List ColumnDef → List ColumnDef
+columns_from rows n columns = filter_map (column_told rows) (numbered n columns)
 
 abbrev pub parts_from : List Row → ℕ → ℕ → List ℕ → ℕ → List ℕ → List ℕ
 parts_from rows id g name n ordinals =

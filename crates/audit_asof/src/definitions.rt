@@ -1,62 +1,132 @@
 //! Definitions as far as rows of the system's tables tell them.
 
-ghost use Rattle.std.specs.Prelude.{◌≡◌, ◌++◌, ◌+◌, ◌∷◌, [], IfOk, OnOk};
-ghost use Rattle.audit_definitions.specs.DefinitionRows.{rows_in, rows_seen};
-ghost use Rattle.spec_asof.specs.DatabaseAt as spec;
+ghost use Rattle.std.specs.Prelude.{◌≡◌, ◌++◌, ◌+◌, ◌∷◌, [], pos, IfOk, OnOk};
+ghost use Rattle.spec_model.specs.Rows.{values_of};
+ghost use Rattle.audit_definitions.specs.DefinitionRows.{row_seen, rows_in, rows_seen};
+ghost use Rattle.spec_asof.specs.DefTold as spec;
 ghost use Rattle.audit_asof.specs.Told.{columns_from, parts_from, indexes_from};
 
-use audit_definitions::{has_column_row, has_part_row, system_rows_of};
+use crate::rows::{last_row, text_at};
+use audit_definitions::{has_part_row, number_at, system_rows_of};
 use base_types::{Items, Memory, Name, TableId};
 use sql_types::{IndexDef, TableDef, Version};
 use sql_value::ColumnDef;
 use std::alloc::Global;
 
-/// The definition with the columns, the indexes and the parts of indexes that have their rows among these of the
-/// second system table.
-#[tactic(auto, unfolding(spec_asof::specs::DatabaseAt::def_told))]
-pub(crate) fn def_told(alloc: Global, second: &[Version], def: TableDef) -> Result<TableDef, Memory>
-    ensures { IfOk result (λ told. told ≡ spec.def_told (rows_in second.now) def) }
+/// What these rows of the two system tables tell of the definition: its names, and the columns, the indexes and the
+/// parts of indexes that have their rows.
+#[tactic(auto, unfolding(spec_asof::specs::DefTold::def_told))]
+pub(crate) fn def_told(
+    alloc: Global,
+    first: &[Version],
+    second: &[Version],
+    def: TableDef,
+) -> Result<TableDef, Memory>
+    ensures { IfOk result (λ told. told ≡ spec.def_told (rows_in first.now) (rows_in second.now) def) }
 {
-    let rows = system_rows_of(alloc, second, def.id)?;
-    let columns = columns_told(alloc, &rows, def.id, def.columns.as_slice())?;
-    let indexes = indexes_told(alloc, &rows, def.id, def.indexes.as_slice())?;
+    let tables = system_rows_of(alloc, first, def.id)?;
+    let row = last_row(&tables, 0, def.id.into());
+    let items = system_rows_of(alloc, second, def.id)?;
+    table_told(alloc, row, items_told(alloc, &items, def)?)
+}
+
+/// The definition with the columns, the indexes and the parts of indexes that have their rows among these.
+fn items_told(alloc: Global, rows: &[&Version], def: TableDef) -> Result<TableDef, Memory>
+    ensures { IfOk result (λ told. told ≡ spec.items_told (rows_seen rows.now) def) }
+{
+    let columns = columns_told(alloc, rows, def.columns.as_slice())?;
+    let dropped = dropped_told(alloc, rows, def.dropped.as_slice())?;
+    let indexes = indexes_told(alloc, rows, def.id, def.indexes.as_slice())?;
     Ok(TableDef {
         columns,
+        dropped,
         indexes,
         ..def
     })
 }
 
+/// The definition with the names that the row of its table says, and dropped where the row says so.
+fn table_told(alloc: Global, row: Option<&Version>, def: TableDef) -> Result<TableDef, Memory>
+    ensures { IfOk result (λ told. told ≡ spec.table_told (row_seen row.entry) def) }
+{
+    match row {
+        Some(row) => Ok(TableDef {
+            name: text_at(alloc, row, 2)?,
+            gone: number_at(row, 3).cmp(&2).is_gt(),
+            history: text_at(alloc, row, 4)?,
+            view: text_at(alloc, row, 5)?,
+            ..def
+        }),
+        None => Ok(def),
+    }
+}
+
 fn columns_told(
     alloc: Global,
     rows: &[&Version],
-    id: TableId,
     columns: &[ColumnDef],
 ) -> Result<Items<ColumnDef>, Memory>
-    ensures { IfOk result (λ told. told ≡ spec.columns_told (rows_seen rows.now) id columns.now) }
+    ensures { IfOk result (λ told. told ≡ spec.columns_told (rows_seen rows.now) columns.now) }
 {
     let mut told = Vec::new(alloc);
     for (place, column) in columns.iter().enumerate() {
-        tell_column(rows, id, place, column, &mut told)?;
+        tell_column(alloc, rows, place, column, &mut told)?;
     }
     Ok(Items::from_vec(told))
 }
 
-/// Adds the column at this place, counted from 0, if it has its row.
+/// Adds the column at this place, counted from 0, as its last row says it, if it has one.
 fn tell_column(
+    alloc: Global,
     rows: &[&Version],
-    id: TableId,
     place: usize,
     column: &ColumnDef,
     told: &mut Vec<ColumnDef>,
 ) -> Result<(), Memory>
     ensures { OnOk result (told.new.items
-        ≡ told.old.items ++ columns_from (rows_seen rows.now) id (place + 1) (column.now ∷ [])) }
+        ≡ told.old.items ++ columns_from (rows_seen rows.now) (place + 1) (column.now ∷ [])) }
 {
-    if has_column_row(rows, id, place, column) {
-        told.push(column.copy()?)?;
+    match last_row(rows, 1, place as i128 + 1) {
+        Some(row) => {
+            told.push(column_said(alloc, column, row)?)?;
+            Ok(())
+        }
+        None => Ok(()),
     }
-    Ok(())
+}
+
+/// The column as the row says it: its type and its place in the key never change.
+fn column_said(alloc: Global, column: &ColumnDef, row: &Version) -> Result<ColumnDef, Memory>
+    ensures { IfOk result (λ said. said ≡ spec.column_said column.now (values_of row.now)) }
+{
+    Ok(ColumnDef {
+        name: text_at(alloc, row, 3)?,
+        ty: column.ty,
+        nullable: number_at(row, 7) != 0,
+        key_position: column.key_position,
+    })
+}
+
+/// Those of these ordinals whose last row says that the column was dropped.
+fn dropped_told(alloc: Global, rows: &[&Version], dropped: &[u16]) -> Result<Items<u16>, Memory>
+    ensures { IfOk result (λ told. told ≡ spec.dropped_told (rows_seen rows.now) dropped.now) }
+{
+    let mut told = Vec::new(alloc);
+    for ordinal in dropped {
+        if is_dropped(rows, *ordinal) {
+            told.push(*ordinal)?;
+        }
+    }
+    Ok(Items::from_vec(told))
+}
+
+fn is_dropped(rows: &[&Version], ordinal: u16) -> bool
+    ensures { result ≡ spec.says_dropped (spec.last_row 1 (pos ordinal) (rows_seen rows.now)) }
+{
+    match last_row(rows, 1, ordinal.into()) {
+        Some(row) => number_at(row, 8) == -1,
+        None => false,
+    }
 }
 
 fn indexes_told(

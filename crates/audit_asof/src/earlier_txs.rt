@@ -1,7 +1,7 @@
 //! The transactions of the first entries of an image.
 
 ghost use Rattle.std.specs.Prelude.{◌≡◌, ℕ, IfOk, map};
-ghost use Rattle.law_catalog_rows.specs.IsEncodableDef.{is_among};
+ghost use Rattle.spec_model.specs.Lists.{is_among};
 
 use base_types::{Memory, TxId};
 use sql_types::TxEntry;

@@ -4,6 +4,7 @@
 mod as_of;
 mod definitions;
 mod earlier_txs;
+mod rows;
 mod tables;
 mod versions;
 

@@ -2,7 +2,7 @@
 
 ghost use Rattle.std.specs.Prelude.{◌≡◌, ◌++◌, ◌∷◌, [], IfOk, OnOk};
 ghost use Rattle.audit_definitions.specs.DefinitionRows.{rows_in};
-ghost use Rattle.law_catalog_rows.specs.IsEncodableDef.{is_among};
+ghost use Rattle.spec_model.specs.Lists.{is_among};
 ghost use Rattle.spec_asof.specs.DatabaseAt as spec;
 
 use crate::definitions::def_told;
@@ -88,7 +88,7 @@ fn add_table(
     ensures { OnOk result (tables.new.items ≡ tables.old.items
         ++ spec.users_at (is_among txs.now) (rows_in first.now) (rows_in second.now) (def ∷ []) (rows ∷ [])) }
 {
-    let def = def_told(alloc, second, def)?;
+    let def = def_told(alloc, first, second, def)?;
     if is_encoded(alloc, first, second, &def)? {
         tables.push(table_at(alloc, txs, def, rows)?)?;
     }

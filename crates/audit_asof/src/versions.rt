@@ -1,8 +1,7 @@
 //! The versions of a table as some transactions left them.
 
 ghost use Rattle.std.specs.Prelude.{◌≡◌, ◌++◌, flat_map, map, IfOk, OnOk};
-ghost use Rattle.law_catalog_rows.specs.IsEncodableDef.{is_among};
-ghost use Rattle.spec_model.specs.Lists.{sorted};
+ghost use Rattle.spec_model.specs.Lists.{sorted, is_among};
 ghost use Rattle.spec_model.specs.Rows.{start_cmp};
 ghost use Rattle.spec_asof.specs.DatabaseAt as spec;
 ghost use Rattle.audit_asof.specs.Kept.{kept_by};

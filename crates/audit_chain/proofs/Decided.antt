@@ -11,15 +11,9 @@ use Rattle.spec_ledger.specs.Blocks.{no_hash, record_hash, first_or_no_hash, las
 use Rattle.format_chain.specs.declared.chain.Chain.{Chain}
 use Rattle.audit_receipt.specs.Accepted.{AreLinked, LeadTo}
 use Rattle.audit_receipt.specs.Tests.{keeps_hash, are_linked, lead_to}
+use Rattle.audit_receipt.proofs.Decided.{both, turned}
 use Rattle.audit_chain.specs.Continues.{first_block, IsOfFirst, IsKept, Continues, is_of_first, is_kept, are_kept}
 use Rattle.audit_chain.specs.Joins.{Joins}
-
-both : {P Q : Type 0} (a b : Bool) → Decides a P → Decides b Q → Decides (a && b) (P × Q)
-both true b x y = ((λ e. (x.0 refl, y.0 e)), λ p. y.1 p.1)
-both false b x y = ((λ e. cc), λ p. x.1 p.0)
-
-turned : {P Q : Type 0} (a : Bool) → (P → Q) → (Q → P) → Decides a P → Decides a Q
-turned a f g x = ((λ e. f (x.0 e)), λ q. x.1 (g q))
 
 numbers : (x y : ℕ) → Decides (x == y) (x ≡ y)
 numbers x y = (eqb-true x y, eq-eqb x y)

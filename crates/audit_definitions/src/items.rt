@@ -259,31 +259,6 @@ fn column_row_at(
     ]
 }
 
-/// The row that CREATE makes of the column at this place.
-fn column_row(id: TableId, place: usize, column: &ColumnDef) -> [ExpectedValue<'_>; 9]
-    ensures { map value_of result ≡ system.column_row id (place + 1, column.now) }
-{
-    let (code, first, second) = type_parts(column.ty);
-    [
-        ExpectedValue::Number(id.into()),
-        ExpectedValue::Number(place as i128 + 1),
-        ExpectedValue::Number(0),
-        ExpectedValue::Name(&column.name),
-        ExpectedValue::Number(code.into()),
-        ExpectedValue::Number(first.into()),
-        ExpectedValue::Number(second.into()),
-        ExpectedValue::Number(bit(column.nullable)),
-        ExpectedValue::Number(column.key_position.into()),
-    ]
-}
-
-/// Whether one of the rows is that of the column at this place, counted from 0.
-pub fn has_column_row(rows: &[&Version], id: TableId, place: usize, column: &ColumnDef) -> bool
-    ensures { result ≡ has_row (rows_seen rows.now) (system.column_row id (place + 1, column.now)) }
-{
-    has_row(rows, &column_row(id, place, column))
-}
-
 /// The key position in the row of the column at this place: -1 where it was dropped.
 fn position_in_row(def: &TableDef, place: usize, column: &ColumnDef) -> i128
     ensures { result ≡ encoded.position_in_row def.now (place + 1, column.now) }

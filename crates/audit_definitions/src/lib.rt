@@ -9,5 +9,7 @@ mod names;
 mod rules;
 mod spelling;
 
-pub use items::{has_column_row, has_part_row, system_rows_of};
+pub use first_values::number_at;
+pub use items::{has_part_row, system_rows_of};
+pub use latest_rows::is_past;
 pub use spelling::{definition_fault, is_encoded};

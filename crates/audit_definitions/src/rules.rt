@@ -2,7 +2,7 @@
 
 ghost use Rattle.std.specs.Prelude.{◌≡◌, ◌<◌, ◌^◌, ◌==◌, ◌+◌, ◌&&◌, ◌||◌, not, IfOk};
 ghost use Rattle.std.specs.List.{list_all, list_any, range_with_len};
-ghost use Rattle.spec_model.specs.Lists.{numbered};
+ghost use Rattle.spec_model.specs.Lists.{is_among, numbered, rise_within};
 ghost use Rattle.law_catalog_rows.specs.IsEncodableDef as spec;
 ghost use Rattle.audit_definitions.specs.Rules.{names_are_right, columns_are_right, indexes_are_right};
 
@@ -64,7 +64,7 @@ fn are_dropped_right(def: &TableDef) -> bool
 
 /// Whether they rise from 1 on, and none is above the limit.
 fn rise_within(limit: usize, numbers: &[u16]) -> bool
-    ensures { result ≡ spec.rise_within 0 limit numbers.now }
+    ensures { result ≡ rise_within 0 limit numbers.now }
 {
     let mut last = 0;
     for n in numbers {
@@ -78,7 +78,7 @@ fn rise_within(limit: usize, numbers: &[u16]) -> bool
 
 /// Whether the dropped columns have no key position.
 fn are_without_key(dropped: &[u16], columns: &[ColumnDef]) -> bool
-    ensures { result ≡ list_all (λ c. not (spec.is_among dropped.now c.0) || c.1.key_position == 0)
+    ensures { result ≡ list_all (λ c. not (is_among dropped.now c.0) || c.1.key_position == 0)
         (numbered 1 columns.now) }
 {
     for (place, column) in columns.iter().enumerate() {
@@ -91,7 +91,7 @@ fn are_without_key(dropped: &[u16], columns: &[ColumnDef]) -> bool
 
 /// Whether the ordinal of the column at this place, counted from 0, is one of these.
 pub fn has_ordinal(ordinals: &[u16], place: usize) -> bool
-    ensures { result ≡ spec.is_among ordinals.now (place + 1) }
+    ensures { result ≡ is_among ordinals.now (place + 1) }
 {
     ordinals
         .iter()
@@ -185,13 +185,13 @@ fn are_key_positions(positions: &[u16]) -> bool
 
 fn are_all_among(numbers: &[u16], last: u16) -> bool
     requires { last < 2 ^ 15 }
-    ensures { result ≡ list_all (spec.is_among numbers.now) (range_with_len 1 last) }
+    ensures { result ≡ list_all (is_among numbers.now) (range_with_len 1 last) }
 {
     (1..last + 1).all(|n| is_among(numbers, n))
 }
 
 fn is_among(numbers: &[u16], n: u16) -> bool
-    ensures { result ≡ spec.is_among numbers.now n }
+    ensures { result ≡ is_among numbers.now n }
 {
     numbers.iter().any(|m| *m == n)
 }

@@ -74,7 +74,7 @@ sizes_are (r ∷ rs) = sum_by-cons (λ (s : BlockRecord). s.size) r rs ∙ ap (�
 
 -- ---- places
 
-length_placed : (n o : ℕ) (es : List TxEntry) → length (placed n o es) ≡ length es
+pub length_placed : (n o : ℕ) (es : List TxEntry) → length (placed n o es) ≡ length es
 length_placed n o [] = refl
 length_placed n o (e ∷ es) = ap suc (length_placed n (o + 1) es)
 

@@ -22,7 +22,7 @@ use Rattle.audit_extract.proofs.Lists.{cons_is, all_taken, all_left}
 
 -- ---- entries at their places have a spelling
 
-placed_fit : (n o : ℕ) (es : List TxEntry) → n < 2 ^ 64 → o + length es ≤ 2 ^ 32 → AllByRecursion IsPlaceless es → AllByRecursion IsEntry (placed n o es)
+pub placed_fit : (n o : ℕ) (es : List TxEntry) → n < 2 ^ 64 → o + length es ≤ 2 ^ 32 → AllByRecursion IsPlaceless es → AllByRecursion IsEntry (placed n o es)
 placed_fit n o [] block le all = tt
 placed_fit n o (e ∷ es) block le all =
     let f = all.0 in (

@@ -21,6 +21,7 @@ use Rattle.law_catalog_rows.specs.Least.{least, least_from}
 use Rattle.spec_verify.specs.First.{unless, first_from}
 use Rattle.spec_verify.specs.Entries.{TableRoot, are_numbered, root_at, same_root, other_roots, root_place, entry_fault, root_fault}
 use Rattle.spec_verify.specs.declared.place.Place.TheVariants as at
+use Rattle.spec_verify.proofs.EncodedSo.{all_rest as all_back, all_front}
 use Rattle.audit_extract.proofs.Heads.{none_both, both_true}
 
 -- ---- the tables of an image stand by rising id
@@ -150,14 +151,6 @@ none_kept p (x ∷ xs) e = by (p x) refl (none_kept p xs) e
     by : (b : Bool) → p x ≡ b → (filter p xs ≡ [] → AllByRecursion (λ y. p y ≡ false) xs) → cond b (x ∷ filter p xs) (filter p xs) ≡ [] → AllByRecursion (λ y. p y ≡ false) (x ∷ xs)
     by true f rest g = absurd cc
     by false f rest g = (f, rest g)
-
-all_front : {A : Type 0} (P : A → Type 0) (xs ys : List A) → AllByRecursion P (xs ++ ys) → AllByRecursion P xs
-all_front P [] ys all = tt
-all_front P (x ∷ xs) ys all = (all.0, all_front P xs ys all.1)
-
-all_back : {A : Type 0} (P : A → Type 0) (xs ys : List A) → AllByRecursion P (xs ++ ys) → AllByRecursion P ys
-all_back P [] ys all = all
-all_back P (x ∷ xs) ys all = all_back P xs ys all.1
 
 listed : (P : ℕ → Type 0) (rs : List TableRoot) (k : ℕ) (r : List ℕ) → AllByRecursion P (map (λ r. r.0) rs) → root_at rs k ≡ Some r → P k
 listed P [] k r all e = absurd cc

@@ -37,29 +37,31 @@ pub(crate) fn in_chain<H: Hash32>(
         at -= 1;
         let x = record_at(a, at);
         let y = record_at(b, at);
-        if !is_same(x, y) {
-            return Ok(ImageComparison::Collision(records(alloc, x, y)?));
+        if !is_same_record(x, y) {
+            return Ok(ImageComparison::Collision(bytes_of_both(alloc, x, y)?));
         }
     }
     Ok(ImageComparison::Same)
 }
 
-fn record_at(records: &[BlockRecord], at: usize) -> &BlockRecord
+/// The record at this place.
+pub fn record_at(records: &[BlockRecord], at: usize) -> &BlockRecord
     requires { at < length records.now }
     ensures { drop at records.now ≡ result.now ∷ drop (at + 1) records.now }
 {
     &records[at]
 }
 
-fn is_same(x: &BlockRecord, y: &BlockRecord) -> bool
+/// Whether two records are one.
+pub fn is_same_record(x: &BlockRecord, y: &BlockRecord) -> bool
     ensures same { result ≡ true → x.now ≡ y.now }
     ensures differ { result ≡ false → x.now ≢ y.now }
 {
     x == y
 }
 
-// The bytes of two records.
-fn records(alloc: Global, x: &BlockRecord, y: &BlockRecord) -> Result<Collision, Memory>
+/// The bytes of two records.
+pub fn bytes_of_both(alloc: Global, x: &BlockRecord, y: &BlockRecord) -> Result<Collision, Memory>
     ensures first { IfOk result (λ c. c.first ≡ record_bytes x.now) }
     ensures second { IfOk result (λ c. c.second ≡ record_bytes y.now) }
 {

@@ -13,6 +13,7 @@ mod laws;
 mod leaves;
 mod trees;
 
+pub use chain::{bytes_of_both, is_same_record, record_at};
 pub use each::{extract_each, last_of};
 pub use found::{Collision, ImageComparison};
 pub use images::extract;

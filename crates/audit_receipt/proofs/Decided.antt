@@ -17,11 +17,11 @@ use Rattle.audit_receipt.specs.Accepted.{AreLinked, LeadTo, StandsIn, Accepted}
 use Rattle.audit_receipt.specs.Tests.{keeps_hash, is_root, are_linked, lead_to, stands_in, is_accepted}
 use Rattle.audit_receipt.proofs.Chains.{last_of_taken}
 
-both : {P Q : Type 0} (a b : Bool) → Decides a P → Decides b Q → Decides (a && b) (P × Q)
+pub both : {P Q : Type 0} (a b : Bool) → Decides a P → Decides b Q → Decides (a && b) (P × Q)
 both true b x y = ((λ e. (x.0 refl, y.0 e)), λ p. y.1 p.1)
 both false b x y = ((λ e. cc), λ p. x.1 p.0)
 
-turned : {P Q : Type 0} (a : Bool) → (P → Q) → (Q → P) → Decides a P → Decides a Q
+pub turned : {P Q : Type 0} (a : Bool) → (P → Q) → (Q → P) → Decides a P → Decides a Q
 turned a f g x = ((λ e. f (x.0 e)), λ q. x.1 (g q))
 
 numbers : (x y : ℕ) → Decides (x == y) (x ≡ y)

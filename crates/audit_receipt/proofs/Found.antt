@@ -15,8 +15,9 @@ use Rattle.spec_ledger.specs.Entries.{placed}
 use Rattle.spec_ledger.specs.Parts.{by_sizes, IsBlockOf}
 use Rattle.format_image.specs.ImageBytes.{IsImage, IsPlaceless, sizes_of}
 use Rattle.spec_verify.specs.Blocks.{chain_fault, block_fault}
-use Rattle.audit_extract.proofs.Heads.{Heads, heads}
+use Rattle.audit_extract.proofs.Heads.{Heads, heads, length_placed}
 use Rattle.audit_extract.proofs.Lists.{all_taken, all_left}
+use Rattle.audit_extract.proofs.Parted.{placed_fit}
 use Rattle.audit_receipt.specs.Accepted.{KeepsHashOf, AreLinked}
 use Rattle.audit_receipt.specs.Made.{part_at}
 
@@ -33,10 +34,6 @@ behind (x ∷ xs) ys zero le = absurd (omega (arith, le))
 behind (x ∷ xs) ys (suc k) le = let same : k - length xs ≡ suc k - suc (length xs) = omega arith in behind xs ys k (omega (arith, le)) ∙ ap (slice_get ys) same
 
 -- ---- places
-
-length_placed : (n o : ℕ) (es : List TxEntry) → length (placed n o es) ≡ length es
-length_placed n o [] = refl
-length_placed n o (e ∷ es) = ap suc (length_placed n (o + 1) es)
 
 -- the item at place k of entries that are placed from ordinal o on
 pub record IsPlaced (n o : ℕ) (e : TxEntry) : Type 0 where
@@ -55,14 +52,6 @@ placed_at n o (suc k) (x ∷ es) e at =
     subst (λ (m : ℕ). IsPlaced n m e) same (placed_at n (o + 1) k es e at)
 
 -- ---- entries at their places have a spelling
-
-placed_fit : (n o : ℕ) (es : List TxEntry) → n < 2 ^ 64 → o + length es ≤ 2 ^ 32 → AllByRecursion IsPlaceless es → AllByRecursion IsEntry (placed n o es)
-placed_fit n o [] block le all = tt
-placed_fit n o (e ∷ es) block le all =
-    let f = all.0 in (
-      record { id = f.id; block = block; ordinal = omega (arith, le); time = f.time; principal = f.principal; count = f.count; roots = f.roots; rise = f.rise },
-      placed_fit n (o + 1) es block (omega (arith, le)) all.1,
-    )
 
 pub each_at : {A : Type 0} (P : A → Type 0) (xs : List A) (k : ℕ) (x : A) → AllByRecursion P xs → slice_get xs k ≡ Some x → P x
 each_at P [] k x all e = cc

@@ -1,6 +1,6 @@
 //! Whether a receipt is accepted with a digest.
 
-ghost use Rattle.std.specs.Prelude.{◌≡◌, ◌≤◌, ◌<◌, ◌+◌, ◌^◌, ◌==◌, ◌&&◌, ◌∷◌, Some, None, bytes_eq, length, drop, IfOk};
+ghost use Rattle.std.specs.Prelude.{◌≡◌, ◌≤◌, ◌<◌, ◌+◌, ◌^◌, ◌==◌, ◌&&◌, Some, None, bytes_eq, length, IfOk};
 ghost use Rattle.std.specs.Bool.{Decides};
 ghost use Rattle.format_entry.specs.Entry.{IsEntry};
 ghost use Rattle.spec_ledger.specs.Blocks.{no_hash, last_hash};
@@ -9,6 +9,7 @@ ghost use Rattle.audit_receipt.specs.Accepted.{Accepted};
 ghost use Rattle.audit_receipt.specs.Tests.{are_linked, is_root, keeps_hash, lead_to, stands_in};
 
 use crate::leaves::entry_leaf;
+use audit_extract::record_at;
 use audit_paths::root_under;
 use base_merkle::Hash32;
 use base_types::{Memory, first_of};
@@ -118,13 +119,6 @@ fn last_hash<H: Hash32>(h: H, records: &[BlockRecord]) -> [u8; 32]
         return [0; 32];
     }
     block_hash(h, record_at(records, count - 1))
-}
-
-fn record_at(records: &[BlockRecord], at: usize) -> &BlockRecord
-    requires { at < length records.now }
-    ensures { drop at records.now ≡ result.now ∷ drop (at + 1) records.now }
-{
-    &records[at]
 }
 
 // Whether the entry stands in the block of the first of these records, as the path shows.

@@ -1,9 +1,9 @@
 //! Two receipts of one place.
 
-ghost use Rattle.std.specs.Prelude.{◌≡◌, ◌≢◌, ◌<◌, ◌+◌, ◌∷◌, true, false, List, length, drop, IfOk, MatchOption};
+ghost use Rattle.std.specs.Prelude.{◌≡◌, ◌≢◌, ◌<◌, ◌∷◌, true, false, List, length, IfOk, MatchOption};
 ghost use Rattle.std.specs.List.{AllByRecursion};
 ghost use Rattle.sql_types.specs.declared.entry.BlockRecord.{BlockRecord};
-ghost use Rattle.format_entry.specs.Record.{IsRecord, record_bytes};
+ghost use Rattle.format_entry.specs.Record.{IsRecord};
 ghost use Rattle.audit_extract.specs.Collisions.{CollideBetween, IsRecordAmong};
 ghost use Rattle.format_receipt.specs.Receipts.{IsReceipt};
 ghost use Rattle.audit_receipt.specs.Accepted.{Accepted, LeadTo};
@@ -11,11 +11,10 @@ ghost use Rattle.audit_receipt.specs.Settles.{Settles};
 
 use crate::leaves::entry_leaf;
 use crate::settled::Settled;
-use audit_extract::Collision;
+use audit_extract::{Collision, bytes_of_both, is_same_record, record_at};
 use audit_paths::find_in_paths;
 use base_merkle::Hash32;
-use base_types::{Blob, Memory};
-use format_entry::record_bytes;
+use base_types::Memory;
 use format_receipt::Receipt;
 use sql_types::{BlockRecord, HeldDigest};
 use std::alloc::Global;
@@ -102,33 +101,9 @@ fn find_in_records<H: Hash32>(
         at -= 1;
         let x = record_at(a, at);
         let y = record_at(b, at);
-        if !is_same(x, y) {
-            return Ok(Some(bytes_of(alloc, x, y)?));
+        if !is_same_record(x, y) {
+            return Ok(Some(bytes_of_both(alloc, x, y)?));
         }
     }
     Ok(None)
-}
-
-fn record_at(records: &[BlockRecord], at: usize) -> &BlockRecord
-    requires { at < length records.now }
-    ensures { drop at records.now ≡ result.now ∷ drop (at + 1) records.now }
-{
-    &records[at]
-}
-
-fn is_same(x: &BlockRecord, y: &BlockRecord) -> bool
-    ensures same { result ≡ true → x.now ≡ y.now }
-    ensures differ { result ≡ false → x.now ≢ y.now }
-{
-    x == y
-}
-
-// The bytes of two records.
-fn bytes_of(alloc: Global, x: &BlockRecord, y: &BlockRecord) -> Result<Collision, Memory>
-    ensures first { IfOk result (λ c. c.first ≡ record_bytes x.now) }
-    ensures second { IfOk result (λ c. c.second ≡ record_bytes y.now) }
-{
-    let first = Blob::of(alloc, &record_bytes(x))?;
-    let second = Blob::of(alloc, &record_bytes(y))?;
-    Ok(Collision { first, second })
 }

@@ -12,6 +12,7 @@ use Rattle.format_row_receipt.specs.declared.row_receipt.RowReceipt.{RowReceipt}
 use Rattle.format_row_receipt.specs.declared.table_receipt.TableReceipt.{TableReceipt}
 use Rattle.audit_receipt.specs.Accepted.{Accepted}
 use Rattle.audit_receipt.specs.Tests.{is_root}
+use Rattle.audit_receipt.proofs.Decided.{both, turned}
 use Rattle.audit_row_receipt.specs.AcceptedRows.{IsLeafIn, Tells, AcceptedTable, AcceptedRow}
 use Rattle.audit_row_receipt.specs.RowsMade.{IsLeafOf, Numbers}
 
@@ -45,13 +46,6 @@ root_decided root (Some own) so is =
     rw is ((λ e. ap (λ (x : List ℕ). Some x) ((bytes_eq-Decides own root).0 e)), λ e. (let same : own ≡ root = cc in (bytes_eq-Decides own root).1 same))
 
 -- ---- receipts
-
-both : {P Q : Type 0} (a b : Bool) → Decides a P → Decides b Q → Decides (a && b) (P × Q)
-both true b x y = ((λ e. (x.0 refl, y.0 e)), λ p. y.1 p.1)
-both false b x y = ((λ e. cc), λ p. x.1 p.0)
-
-turned : {P Q : Type 0} (a : Bool) → (P → Q) → (Q → P) → Decides a P → Decides a Q
-turned a f g x = ((λ e. f (x.0 e)), λ q. x.1 (g q))
 
 module _ (h : List ℕ → List ℕ) (d : HeldDigest) where
   pub row_decided : (r : RowReceipt) (table : ℕ) (root : List ℕ) (a b answer : Bool) → Tells r.receipt.entry.id r.leaf (Some table) → root ≡ root_over h r.leaf r.steps

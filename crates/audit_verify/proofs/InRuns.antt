@@ -6,7 +6,6 @@ use Rattle.std.proofs.lemmas.List.{get_or_default}
 use Rattle.std.specs.Prelude.{◌&&◌, ◌||◌, ◌==◌, not, is_none, is_some, option_map, IfSome}
 use Rattle.std.specs.Cmp.{IsTotalOrder, on_total, then_total, nat_cmp_total}
 use Rattle.std.specs.List.{AllByRecursion, list_any}
-use Rattle.std.specs.declared.cmp.Ordering.{Ordering}
 use Rattle.std.specs.declared.cmp.Ordering.TheVariants.{Less, Equal, Greater}
 use Rattle.std.specs.Ordering.{is_eq, nat_cmp, ordering_then}
 use Rattle.sql_value.specs.declared.column.ColumnDef.{ColumnDef}
@@ -19,6 +18,7 @@ use Rattle.sql_parts.proofs.Orders.{event_total, key_total}
 use Rattle.sql_parts.proofs.Sorting.{is_sorted}
 use Rattle.spec_verify.specs.Entries.{has_id}
 use Rattle.spec_verify.specs.Order as spec
+use Rattle.spec_verify.proofs.SystemRows.{then_equal as then_both}
 use Rattle.audit_verify.specs.declared.order.EarlierVersions.{EarlierVersions}
 use Rattle.audit_verify.specs.declared.order.VersionWithRanks.{VersionWithRanks}
 use Rattle.audit_verify.specs.Order.{IsRanked, InRuns, KnowsEarlier, KnowsBefore, version_of, start_cmp, key_order, ranked_cmp, openness, rank_before, is_open, earlier_of, any_open, ends_well, follows, is_ordered_after, is_ordered_among}
@@ -39,11 +39,6 @@ keys_total columns = on_total (λ (r : VersionWithRanks). version_key columns r.
 
 pub ranked_total : (columns : List ColumnDef) → IsTotalOrder (ranked_cmp columns)
 ranked_total columns = then_total (keys_total columns) starts_total
-
-then_both : (r s : Ordering) → ordering_then r s ≡ Equal → (r ≡ Equal) × (s ≡ Equal)
-then_both Less s e = cc
-then_both Equal s e = (refl, e)
-then_both Greater s e = cc
 
 open_by : (a b : Option Rank) → nat_cmp (openness a) (openness b) ≡ Equal → is_none a ≡ is_none b
 open_by None None e = refl

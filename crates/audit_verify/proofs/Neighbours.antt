@@ -1,11 +1,11 @@
 -- What stands side by side in a list that rises.
 use Rattle.std.proofs.Common.{◌≡◌, ◌<◌, ◌≤◌, ◌+◌, ℕ, zero, suc, arith, sym, ap, ◌∙◌, false, List, [], ◌∷◌, ◌++◌, length, take, drop, get_or, is_lt, IsSorted, zero-le, suc-le-suc}
-use Rattle.std.proofs.Math.Seq.{drop-cons}
 use Rattle.std.proofs.lemmas.List.{take-append-drop}
 use Rattle.std.proofs.lemmas.List.Sorted.{ranks_by, sorted_far}
 use Rattle.std.specs.Cmp.{IsTotalOrder}
 use Rattle.std.specs.List.{AllByRecursion}
 use Rattle.std.specs.declared.cmp.Ordering.{Ordering}
+use Rattle.audit_definitions.proofs.Walks.{from_here}
 use Rattle.audit_columns.specs.Runs.{Neighbours}
 
 module _ {A : Type 0} (P : A → Type 0) where
@@ -19,9 +19,6 @@ module _ {A : Type 0} (P : A → Type 0) where
   of_back [] (suc k) d h = tt
   of_back (x ∷ xs) zero d h = (h zero zero-le (suc-le-suc zero-le), of_back xs zero d (λ i le within. h (suc i) zero-le (suc-le-suc within)))
   of_back (x ∷ xs) (suc k) d h = of_back xs k d (λ i le within. h (suc i) (suc-le-suc le) (suc-le-suc within))
-
-pub from_here : {A : Type 0} (xs : List A) (k : ℕ) (d : A) → k < length xs → drop k xs ≡ get_or xs k d ∷ drop (k + 1) xs
-from_here xs k d lt = let one : k + 1 ≡ suc k = omega arith in rw one (drop-cons xs k d lt)
 
 module _ {A : Type 0} (cmp : A → A → Ordering) (total : IsTotalOrder cmp) (xs : List A) (up : IsSorted cmp xs) where
   far : (i j : ℕ) (d : A) → i ≤ j → j < length xs → is_lt (cmp (get_or xs j d) (get_or xs i d)) ≡ false

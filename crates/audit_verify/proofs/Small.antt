@@ -25,6 +25,7 @@ use Rattle.law_catalog_rows.specs.Differs.{table_of}
 use Rattle.spec_verify.specs.Sentences.{VersionHolds, TableVersion, versions_of_image}
 use Rattle.spec_verify.specs.Versions.{has_columns, version_fault}
 use Rattle.spec_verify.proofs.ToldVersions.{versions_told}
+use Rattle.spec_verify.proofs.EncodedSo.{all_rest as all_back, all_front}
 use Rattle.audit_definitions.specs.DefinitionRows.{HasSmallId, base_in}
 
 abbrev IsSmall : ℤ → Type 0
@@ -50,14 +51,6 @@ small_row c cs (Some t ∷ vs) ty e =
     let of_column = (and_parts _ _ e).0 in
     let stored : is_stored t.value c.ty ≡ true = (and_parts _ _ of_column).1 in
     small_value t.value (map value_or_null vs) (subst (λ (y : SqlType). is_stored t.value y ≡ true) ty stored)
-
-all_front : {A : Type 0} (P : A → Type 0) (xs ys : List A) → AllByRecursion P (xs ++ ys) → AllByRecursion P xs
-all_front P [] ys a = tt
-all_front P (x ∷ xs) ys a = (a.0, all_front P xs ys a.1)
-
-all_back : {A : Type 0} (P : A → Type 0) (xs ys : List A) → AllByRecursion P (xs ++ ys) → AllByRecursion P ys
-all_back P [] ys a = a
-all_back P (x ∷ xs) ys a = all_back P xs ys a.1
 
 abbrev in_table : Table → Version → TableVersion
 in_table t v = (t, v)

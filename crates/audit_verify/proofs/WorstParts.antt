@@ -6,9 +6,8 @@ use Rattle.std.proofs.lemmas.List.{map-append}
 use Rattle.std.proofs.lemmas.List.Elements.{filter-append}
 use Rattle.std.specs.Prelude.{◌&&◌, ◌||◌, not}
 use Rattle.std.specs.List.{AllByRecursion}
-use Rattle.std.specs.declared.cmp.Ordering.{Ordering}
-use Rattle.std.specs.declared.cmp.Ordering.TheVariants.{Less, Equal, Greater}
-use Rattle.std.specs.Ordering.{nat_cmp, ordering_then}
+use Rattle.std.specs.declared.cmp.Ordering.TheVariants.{Equal}
+use Rattle.std.specs.Ordering.{nat_cmp}
 use Rattle.sql_value.specs.declared.column.ColumnDef.{ColumnDef}
 use Rattle.sql_types.specs.declared.entry.TxEntry.{TxEntry}
 use Rattle.sql_types.specs.declared.image.TableRows.{TableRows}
@@ -18,21 +17,17 @@ use Rattle.format_image.specs.Tables.{table_in}
 use Rattle.spec_model.specs.Lists.{sorted}
 use Rattle.law_catalog_rows.specs.Least.{lesser, least_from}
 use Rattle.spec_verify.proofs.ToldEntries.{table_event_total}
+use Rattle.spec_verify.proofs.SystemRows.{then_equal as then_both}
 use Rattle.spec_verify.specs.Entries.{TableEvent, table_event_cmp}
 use Rattle.spec_verify.specs.Order.{shares_key, is_in_order}
 use Rattle.spec_verify.specs.Versions.{has_columns, respects_columns, with_columns, version_holds, bad_versions}
+use Rattle.audit_definitions.proofs.Walks.{from_here}
 use Rattle.audit_verify.specs.declared.order.EarlierVersions.{EarlierVersions}
 use Rattle.audit_verify.specs.declared.order.VersionWithRanks.{VersionWithRanks}
 use Rattle.audit_verify.specs.Order.{IsRanked, InRuns, KnowsEarlier, version_of, ranked_cmp, is_ordered_after, is_ordered_among, out_of_order}
 use Rattle.audit_verify.specs.Versions.{fits_alone, null_among, unfit_among}
 use Rattle.audit_verify.proofs.InRuns.{ordered_among_is, ordered_among_sorted}
 use Rattle.audit_verify.proofs.LeastParts.{in_parts, when_sorted}
-use Rattle.audit_verify.proofs.Neighbours.{from_here}
-
-then_both : (r s : Ordering) → ordering_then r s ≡ Equal → (r ≡ Equal) × (s ≡ Equal)
-then_both Less s e = cc
-then_both Equal s e = (refl, e)
-then_both Greater s e = cc
 
 same_number : (m n : ℕ) → nat_cmp m n ≡ Equal → m ≡ n
 same_number m n e = ranked m n Equal (sym e)

@@ -3,16 +3,12 @@ use Rattle.std.proofs.Common.{◌≡◌, ◌+◌, ℕ, List, Option, Some, None,
 use Rattle.std.proofs.Math.Seq.{drop-length}
 use Rattle.std.proofs.lemmas.List.{drop_all}
 use Rattle.std.specs.declared.alloc.Global.{Global}
-use Rattle.base_io.specs.Store.{Names}
-use Rattle.base_io.specs.declared.vault.VaultErr.{VaultErr}
-use Rattle.base_io.specs.declared.vault.VaultErr.TheVariants as refused
-use Rattle.cli_commands.specs.declared.files.File.{File}
-use Rattle.cli_commands.specs.declared.status.Status.{Status}
-use Rattle.cli_commands.specs.declared.status.Status.TheVariants.{Done, No, Words, Limit, SourceFault, SinkFault, VaultFault, Missing, Digests, Journal, Form, Memory, NotImage, NoEntry, Receipt, TooFar}
-use Rattle.cli_commands.specs.Files.{StopsBy}
+use Rattle.cli_audit.specs.declared.status.Status.{Status}
+use Rattle.cli_audit.specs.declared.status.Status.TheVariants.{Done, No, Words, Limit, SourceFault, SinkFault, VaultFault, Missing, Digests, Journal, Form, Memory, NotImage, NoEntry, Receipt, TooFar}
 use Rattle.cli_commands.specs.Input.{InputForm}
-use Rattle.cli_commands.specs.Transfer.{input_limit, IsInputRead}
-use Rattle.cli_commands.specs.Answer.{InputCause, HasRead, HasPut, HasWritten, EndsBy, RunOutcomeOrIdle, vault_status}
+use Rattle.cli_audit.specs.Transfer.{input_limit, IsInputRead}
+use Rattle.cli_audit.specs.Answer.{HasRead, EndsBy}
+use Rattle.cli_commands.specs.Answer.{InputCause, RunOutcomeOrIdle}
 
 -- what is known of the bytes that came is known of the input
 pub bytes_came : (input rest : Option (List ℕ)) (v : Vec ℕ Global) (bytes : List ℕ) (P : List ℕ → Type 0) → IfSome input (λ i. IsInputRead i rest (Ok v)) → bytes ≡ v.items → P bytes → IfSome input P
@@ -103,10 +99,3 @@ ran_within (Journal at) ran ran' idle f r = r
 ran_within Limit ran ran' idle f r = r
 ran_within SourceFault ran ran' idle f r = r
 ran_within (Form line) ran ran' idle f r = r
-
--- what was put is what the run puts
-pub put_is : (status : Status) (made files : List File) (old new : Option Names) → made ≡ files → HasPut status made old new → HasPut status files old new
-put_is status made files old new is put = let P : List File → Type 0 = λ x. HasPut status x old new in subst P is put
-
-pub written_is : (status : Status) (made text : List ℕ) (old new : Option (List ℕ)) → made ≡ text → HasWritten status made old new → HasWritten status text old new
-written_is status made text old new is written = let P : List ℕ → Type 0 = λ x. HasWritten status x old new in subst P is written

@@ -1,13 +1,4 @@
 pub mod AnswerLemmas
-mod AsOfLemmas
 pub mod CallLemmas
-pub mod CheckLemmas
-pub mod ExtractLemmas
-pub mod FilesLemmas
-pub mod GetLemmas
-pub mod ReceiptLemmas
-pub mod ReplayLemmas
 pub mod SavedLemmas
-pub mod TransferLemmas
-pub mod UpgradeLemmas
 mod ReportLemmas

@@ -17,12 +17,13 @@ use Rattle.spec_protocol.specs.Seats.{KeptImage}
 use Rattle.server_result.specs.Images.{AreKept, ItemsRise}
 use Rattle.server_result.specs.declared.ran.RunOutcome.{RunOutcome as Output}
 use Rattle.cli_words.specs.Commands.{Settings}
-use Rattle.cli_commands.specs.declared.files.File.{File}
-use Rattle.cli_commands.specs.declared.status.Status.{Status}
-use Rattle.cli_commands.specs.Answer.{HasPut, HasWritten, Saves}
-use Rattle.cli_commands.specs.Files.{names_after, TellsLeft, TellsHeld, FirstArePut, put_held}
-use Rattle.cli_commands.specs.Run.{cut_name, cut_file, image_name, image_file, digests_name, digests_file, journal_name, saved_files, LinesComeTo, SectionsComeTo, IsSavable, AreSaved}
-use Rattle.cli_commands.proofs.AnswerLemmas.{put_is, written_is}
+use Rattle.cli_audit.specs.declared.files.File.{File}
+use Rattle.cli_audit.specs.declared.status.Status.{Status}
+use Rattle.cli_audit.specs.Answer.{HasPut, HasWritten}
+use Rattle.cli_commands.specs.Answer.{Saves}
+use Rattle.cli_audit.specs.Files.{names_after, TellsLeft, TellsHeld, FirstArePut, put_held, image_name, image_file, journal_name}
+use Rattle.cli_commands.specs.Run.{cut_name, cut_file, digests_name, digests_file, saved_files, LinesComeTo, SectionsComeTo, IsSavable, AreSaved}
+use Rattle.cli_audit.proofs.AnswerLemmas.{put_is, written_is}
 
 -- ---- files of different names
 

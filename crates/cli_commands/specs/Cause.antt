@@ -2,18 +2,18 @@
 use Rattle.std.specs.Prelude.{◌≡◌, ◌⊎◌, ℕ, List, Option, Some, None}
 use Rattle.base_io.specs.Store.{Names}
 use Rattle.cli_words.specs.Commands.{Command, Step, Run, Verify, Extract, Replay, Upgrade, Gen, Receipt, Join, Check, AsOf, Help, Version}
-use Rattle.cli_commands.specs.declared.status.Status.{Status}
-use Rattle.cli_commands.specs.declared.status.Status.TheVariants.{Words, Memory}
+use Rattle.cli_audit.specs.declared.status.Status.{Status}
+use Rattle.cli_audit.specs.declared.status.Status.TheVariants.{Words, Memory}
 use Rattle.cli_commands.specs.Answer.{InputCause}
-use Rattle.cli_commands.specs.AsOf.{AsOfCause}
-use Rattle.cli_commands.specs.Check.{CheckCause}
-use Rattle.cli_commands.specs.Extract.{ExtractCause}
+use Rattle.cli_audit.specs.AsOf.{AsOfCause}
+use Rattle.cli_audit.specs.Check.{CheckCause}
+use Rattle.cli_audit.specs.Extract.{ExtractCause}
 use Rattle.cli_commands.specs.Input.{line_form, section_form}
-use Rattle.cli_commands.specs.Receipt.{ReceiptCause}
-use Rattle.cli_commands.specs.Replay.{ReplayCause}
-use Rattle.cli_commands.specs.Tell.{TellCause}
-use Rattle.cli_commands.specs.Upgrade.{UpgradeCause}
-use Rattle.cli_commands.specs.Verify.{VerifyCause}
+use Rattle.cli_audit.specs.Receipt.{ReceiptCause}
+use Rattle.cli_audit.specs.Replay.{ReplayCause}
+use Rattle.cli_audit.specs.Tell.{TellCause}
+use Rattle.cli_audit.specs.Upgrade.{UpgradeCause}
+use Rattle.cli_audit.specs.Verify.{VerifyCause}
 use Rattle.cli_commands.specs.Words.{wanted_of}
 use Rattle.audit_any_receipt.specs.declared.make.Wanted.TheVariants as wanted
 

@@ -8,10 +8,10 @@ use Rattle.workload_run.specs.CameTo.{CameTo, IsClosed}
 use Rattle.workload_run.specs.Agreed.{RunResult}
 use Rattle.workload_run.specs.Reports.{expected, TellsOf}
 use Rattle.workload_run.specs.declared.report.Report.{Report}
-use Rattle.cli_commands.specs.declared.status.Status.{Status}
-use Rattle.cli_commands.specs.declared.status.Status.TheVariants.{Done, SinkFault}
-use Rattle.cli_commands.specs.Transfer.{TellsPart}
-use Rattle.cli_commands.specs.Verify.{verdict_text}
+use Rattle.cli_audit.specs.declared.status.Status.{Status}
+use Rattle.cli_audit.specs.declared.status.Status.TheVariants.{Done, SinkFault}
+use Rattle.cli_audit.specs.Transfer.{TellsPart}
+use Rattle.cli_audit.specs.Verify.{verdict_text}
 
 -- a word and a number
 abbrev pub figure : List ℕ → ℕ → List ℕ

@@ -4,9 +4,9 @@ use Rattle.format_lines.specs.Line.{Statement}
 use Rattle.format_lines.specs.Lines.{read_input}
 use Rattle.format_lines.specs.Sessions.{sessions_of, max_sessions}
 use Rattle.format_sections.specs.RunSections.{RunSections, read_run_sections}
-use Rattle.cli_commands.specs.declared.status.Status.{Status}
-use Rattle.cli_commands.specs.declared.status.Status.TheVariants.{Limit, Form, Memory}
-use Rattle.cli_commands.specs.Transfer.{input_limit, IsTooMuch}
+use Rattle.cli_audit.specs.declared.status.Status.{Status}
+use Rattle.cli_audit.specs.declared.status.Status.TheVariants.{Limit, Form, Memory}
+use Rattle.cli_audit.specs.Transfer.{input_limit, IsTooMuch}
 
 -- a form of inputs: what an input says, or its first line that lacks the form; and how many sessions stand in
 -- what it says

@@ -2,9 +2,7 @@
 use Rattle.std.specs.Prelude.{◌≡◌, ◌<◌, ◌^◌, ℕ, List, [], ◌∷◌, ◌++◌, codes, map, Ok}
 use Rattle.std.specs.Fmt.{decimal}
 use Rattle.std.specs.List.{AllByRecursion}
-use Rattle.sql_types.specs.declared.journal.Journal.{Journal}
 use Rattle.spec_history.specs.Lists.{Each}
-use Rattle.format_journal.specs.Journal.{journal_bytes}
 use Rattle.format_journal.specs.Rules.{IsJournal}
 use Rattle.format_digest.specs.Reading.{IsRead}
 use Rattle.format_digest.specs.Writing.{HasMoments, IsFile, held_form}
@@ -21,7 +19,8 @@ use Rattle.workload_run.specs.Agreed.{RunResult}
 use Rattle.workload_run.specs.CameTo as all
 use Rattle.workload_run.specs.CameTo.{IsOf}
 use Rattle.cli_words.specs.Commands.{Settings}
-use Rattle.cli_commands.specs.declared.files.File.{File}
+use Rattle.cli_audit.specs.declared.files.File.{File}
+use Rattle.cli_audit.specs.Files.{image_file, journal_file}
 use Rattle.cli_commands.specs.Input.{InputForm, Says}
 
 -- ---- files
@@ -33,26 +32,12 @@ cut_name save items = save ++ codes "-" ++ decimal items ++ codes ".img"
 abbrev pub cut_file : List ℕ → KeptImage → File
 cut_file save k = record { name = cut_name save k.0; bytes = k.1 }
 
--- NAME.img has the image of all
-abbrev pub image_name : List ℕ → List ℕ
-image_name save = save ++ codes ".img"
-
-abbrev pub image_file : List ℕ → List ℕ → File
-image_file save bytes = record { name = image_name save; bytes = bytes }
-
 -- NAME.digests has the digests
 abbrev pub digests_name : List ℕ → List ℕ
 digests_name save = save ++ codes ".digests"
 
 abbrev pub digests_file : List ℕ → List ℕ → File
 digests_file save bytes = record { name = digests_name save; bytes = bytes }
-
--- NAME.journal has the journal
-abbrev pub journal_name : List ℕ → List ℕ
-journal_name save = save ++ codes ".journal"
-
-abbrev pub journal_file : List ℕ → Journal → File
-journal_file save journal = record { name = journal_name save; bytes = journal_bytes journal }
 
 -- what is saved of a run under a name, in the order in which it is put; the digests have these bytes
 abbrev pub saved_files : List ℕ → Output → List ℕ → List File

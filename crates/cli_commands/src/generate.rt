@@ -3,17 +3,16 @@
 ghost use Rattle.std.specs.Prelude.{⊤, ◌≡◌, ◌≤◌, ◌⊎◌, IfOk, string_bytes};
 ghost use Rattle.base_io.specs.Count.{Rises};
 ghost use Rattle.base_io.specs.History.{Since};
-ghost use Rattle.cli_commands.specs.Answer.{Unfailed};
-ghost use Rattle.cli_commands.specs.Calls.{AreWrites};
+ghost use Rattle.cli_audit.specs.Answer.{Unfailed};
+ghost use Rattle.cli_audit.specs.Calls.{AreWrites};
 ghost use Rattle.cli_commands.specs.Generated.{counts_text, HasGenerated, report_text, WasRun};
-ghost use Rattle.cli_commands.specs.Tell.{TellCause};
-ghost use Rattle.cli_commands.specs.Verify.{SaidOrIdle};
+ghost use Rattle.cli_audit.specs.Tell.{TellCause};
+ghost use Rattle.cli_audit.specs.Verify.{SaidOrIdle};
 
-use crate::Status;
-use crate::tell::tell;
 use base_io::Sink;
 use base_merkle::Hash32;
 use base_types::Memory;
+use cli_audit::{Status, tell_text};
 use std::alloc::{AllocError, Global};
 use std::sync::Wait;
 use std::thread::Threads;
@@ -72,7 +71,7 @@ pub(crate) fn generate<H: Hash32, K: Sink, R: Threads + Wait + Sync>(
         ((K.faults sink.new ≡ K.faults sink.old) × (K.stalls sink.new ≡ K.stalls sink.old)) }
 {
     match generated(rt, alloc, h, count) {
-        Ok(text) => tell(&text, sink),
+        Ok(text) => tell_text(&text, sink),
         Err(Memory) => Status::Memory,
     }
 }

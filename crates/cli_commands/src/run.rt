@@ -10,17 +10,17 @@ ghost use Rattle.format_sections.specs.RunSections.{run_sections_view, session_n
 ghost use Rattle.cli_words.specs.Commands.{AreInRange};
 ghost use Rattle.cli_words.specs.Views.{settings_view};
 ghost use Rattle.cli_commands.specs.Input.{IsRefused, Says, section_form};
-ghost use Rattle.cli_commands.specs.Answer.{InputCause, HasRead, RanAndSaved, RunOutcomeOrIdle, Unfailed};
-ghost use Rattle.cli_commands.specs.Calls.{AreReads, ArePuts, AreWrites};
+ghost use Rattle.cli_audit.specs.Answer.{HasRead, Unfailed};
+ghost use Rattle.cli_commands.specs.Answer.{InputCause, RanAndSaved, RunOutcomeOrIdle};
+ghost use Rattle.cli_audit.specs.Calls.{AreReads, ArePuts, AreWrites};
 ghost use Rattle.cli_commands.specs.Run.{IsRun, IsSavable, SectionsComeTo};
-ghost use Rattle.cli_commands.specs.Transfer.{input_limit};
+ghost use Rattle.cli_audit.specs.Transfer.{input_limit};
 
-use crate::Status;
 use crate::saved::save_and_write;
-use crate::transfer::{ReadErr, read_input};
 use base_io::{Clock, Gate, Sink, Source, Vault};
 use base_merkle::Hash32;
 use base_types::Memory;
+use cli_audit::{ReadErr, Status, read_input};
 use format_sections::{RunSections, SectionsErr, has_many_sessions, read_run_sections};
 use server_result::{RunOutcome, Settings};
 use std::alloc::Global;

@@ -1,38 +1,26 @@
-//! The files that a run saves, and those that are saved of a journal that was run again.
+//! The files that a run saves.
 
-ghost use Rattle.std.specs.Prelude.{⊤, ◌≡◌, ◌⊎◌, ◌++◌, ◌∷◌, [], map, IfOk, Ok};
+ghost use Rattle.std.specs.Prelude.{⊤, ◌≡◌, ◌⊎◌, map, IfOk, Ok};
 ghost use Rattle.std.specs.List.{AllByRecursion};
 ghost use Rattle.base_io.specs.Count.{Rises};
 ghost use Rattle.base_io.specs.History.{Since};
 ghost use Rattle.format_digest.specs.Reading.{IsRead};
 ghost use Rattle.format_digest.specs.Writing.{HasMoments, IsFile, held_form};
-ghost use Rattle.format_image.specs.ImageBytes.{image_bytes, IsImage};
 ghost use Rattle.format_journal.specs.Rules.{IsJournal};
-ghost use Rattle.cli_commands.specs.Answer.{EndsBy, RunOutcomeOrIdle, Saves, Unfailed};
-ghost use Rattle.cli_commands.specs.Calls.{ArePuts, AreWrites};
-ghost use Rattle.cli_commands.specs.Run.{AreSaved, IsSavable, cut_file, digests_file, image_file, journal_file, journal_name};
+ghost use Rattle.cli_audit.specs.Answer.{EndsBy, Unfailed};
+ghost use Rattle.cli_commands.specs.Answer.{RunOutcomeOrIdle, Saves};
+ghost use Rattle.cli_audit.specs.Calls.{ArePuts, AreWrites};
+ghost use Rattle.cli_audit.specs.Files.{journal_file};
+ghost use Rattle.cli_commands.specs.Run.{AreSaved, IsSavable, cut_file, digests_file};
 
-use crate::Status;
-use crate::files::{File, put_and_write};
 use base_io::{Sink, Vault};
 use base_types::{Blob, Items, Memory, Text};
+use cli_audit::{File, Status, file_of, image_file, put_and_write};
 use format_digest::write_digests;
-use format_image::{Image, write_image};
 use format_journal::{Journal, write_journal};
 use server_result::RunOutcome;
 use sql_types::Digest;
 use std::alloc::Global;
-
-/// The file of some bytes, under a name with this ending.
-pub(crate) fn file(alloc: Global, save: &str, ending: &str, bytes: Blob) -> Result<File, Memory>
-    ensures { IfOk result (λ file. file ≡ record { name = save.now ++ ending.now; bytes = bytes }) }
-{
-    let name = format!(in alloc; "{save}{ending}")?;
-    Ok(File {
-        name: Text::from_string(name),
-        bytes,
-    })
-}
 
 /// The file of the image of so many items.
 fn cut_file(alloc: Global, save: &str, image: (u64, Blob)) -> Result<File, Memory>
@@ -46,12 +34,6 @@ fn cut_file(alloc: Global, save: &str, image: (u64, Blob)) -> Result<File, Memor
     })
 }
 
-pub(crate) fn image_file(alloc: Global, save: &str, bytes: Blob) -> Result<File, Memory>
-    ensures { IfOk result (λ file. file ≡ image_file save.now bytes) }
-{
-    file(alloc, save, ".img", bytes)
-}
-
 fn digests_file(alloc: Global, save: &str, digests: &[Digest]) -> Result<File, Memory>
     requires { AllByRecursion HasMoments digests.now }
     ensures file { IfOk result (λ file. IsFile digests.now file.bytes) }
@@ -59,7 +41,7 @@ fn digests_file(alloc: Global, save: &str, digests: &[Digest]) -> Result<File, M
     ensures is { IfOk result (λ file. file ≡ digests_file save.now file.bytes) }
 {
     let bytes = Blob::from_vec(write_digests(alloc, digests)?);
-    file(alloc, save, ".digests", bytes)
+    file_of(alloc, save, ".digests", bytes)
 }
 
 fn journal_file(alloc: Global, save: &str, journal: &Journal) -> Result<File, Memory>
@@ -67,7 +49,7 @@ fn journal_file(alloc: Global, save: &str, journal: &Journal) -> Result<File, Me
     ensures { IfOk result (λ file. file ≡ journal_file save.now journal.now) }
 {
     let bytes = Blob::from_vec(write_journal(alloc, journal)?);
-    file(alloc, save, ".journal", bytes)
+    file_of(alloc, save, ".journal", bytes)
 }
 
 /// The files of the images that were kept.
@@ -131,22 +113,4 @@ pub(crate) fn save_and_write<K: Sink, V: Vault>(
         return Status::Memory;
     };
     put_and_write(vault, sink, output.files.as_slice(), output.text.bytes())
-}
-
-/// The files of a journal that was run again, in the order in which they are put: its image, and its bytes.
-pub(crate) fn replayed_files(
-    alloc: Global,
-    save: &str,
-    image: &Image,
-    journal: Vec<u8>,
-) -> Result<Items<File>, Memory>
-    requires { IsImage image.now }
-    ensures { IfOk result (λ files. files ≡ image_file save.now (image_bytes image.now)
-        ∷ record { name = journal_name save.now; bytes = journal.items } ∷ []) }
-{
-    let image = Blob::from_vec(write_image(alloc, image)?);
-    let mut files = Items::new(alloc);
-    files.push(image_file(alloc, save, image)?)?;
-    files.push(file(alloc, save, ".journal", Blob::from_vec(journal))?)?;
-    Ok(files)
 }

@@ -7,38 +7,36 @@ ghost use Rattle.base_io.specs.History.{Since};
 ghost use Rattle.cli_words.specs.Commands.{command_of};
 ghost use Rattle.cli_commands.specs.Words.{OfStep, OfRun, OfVerify, OfReplay, OfUpgrade, OfExtract, OfGen, OfTell};
 ghost use Rattle.cli_commands.specs.Words.{OfReceipt, OfCheck, OfAsOf};
-ghost use Rattle.cli_commands.specs.AsOf.{AreReadsBehind, HasReadBehind, SaysAnswers};
+ghost use Rattle.cli_audit.specs.AsOf.{AreReadsBehind, HasReadBehind, SaysAnswers};
 ghost use Rattle.cli_commands.specs.Words.{reads_input, puts_files};
-ghost use Rattle.cli_commands.specs.Answer.{HasRead, RanAndSaved, RunOutcomeOrIdle, Unfailed};
-ghost use Rattle.cli_commands.specs.Calls.{AreReads, AreCalls, AreWrites};
+ghost use Rattle.cli_audit.specs.Answer.{HasRead, Unfailed};
+ghost use Rattle.cli_commands.specs.Answer.{RanAndSaved, RunOutcomeOrIdle};
+ghost use Rattle.cli_audit.specs.Calls.{AreReads, AreWrites};
+ghost use Rattle.cli_commands.specs.Calls.{AreCalls};
 ghost use Rattle.cli_commands.specs.Cause.{HasCause};
-ghost use Rattle.cli_commands.specs.Check.{Checks, ShowsClaim};
-ghost use Rattle.cli_commands.specs.Extract.{Extracts};
+ghost use Rattle.cli_audit.specs.Check.{Checks, ShowsClaim};
+ghost use Rattle.cli_audit.specs.Extract.{Extracts};
 ghost use Rattle.cli_commands.specs.Generated.{HasGenerated};
 ghost use Rattle.cli_commands.specs.Input.{line_form, section_form};
-ghost use Rattle.cli_commands.specs.Receipt.{Receipted, SaysNo, ReceiptedOrIdle, PutsReceipt};
-ghost use Rattle.cli_commands.specs.Replay.{SavesReplay, ReplayedOrIdle, PutsAccepted};
+ghost use Rattle.cli_audit.specs.Receipt.{Receipted, SaysNo, ReceiptedOrIdle, PutsReceipt};
+ghost use Rattle.cli_audit.specs.Replay.{SavesReplay, ReplayedOrIdle, PutsAccepted};
 ghost use Rattle.cli_commands.specs.Run.{LinesComeTo, SectionsComeTo};
-ghost use Rattle.cli_commands.specs.Tell.{HasTold};
-ghost use Rattle.cli_commands.specs.Upgrade.{Upgraded, UpgradedOrIdle, PutsTheSame};
-ghost use Rattle.cli_commands.specs.Verify.{SaysVerdict, SaidOrIdle};
+ghost use Rattle.cli_audit.specs.Tell.{HasTold};
+ghost use Rattle.cli_audit.specs.Upgrade.{Upgraded, UpgradedOrIdle, PutsTheSame};
+ghost use Rattle.cli_audit.specs.Verify.{SaysVerdict, SaidOrIdle};
 
-use crate::Status;
-use crate::asof::answer_as_of;
-use crate::check::check;
-use crate::extract::extract;
 use crate::generate::generate;
-use crate::receipt::{receipt, receipt_of_part};
-use crate::replay::replay;
+use crate::part::receipt_of_part;
 use crate::run::run_side_by_side;
 use crate::step::step;
-use crate::tell::tell;
-use crate::upgrade::upgrade;
-use crate::verify::verify;
 use audit_any_receipt::Wanted;
 use base_io::{Clock, Gate, Sink, Source, Vault};
 use base_merkle::Sha256Hash;
 use base_types::Memory;
+use cli_audit::{
+    Status, answer_as_of, check_receipt, compare_images, make_receipt, replay_journal, tell_text,
+    upgrade_image, verify_image,
+};
 use cli_words::{Command, VERSION, help_text, read_command};
 use std::alloc::Global;
 use std::sync::Wait;
@@ -304,16 +302,16 @@ pub fn ledgerd<S: Source, K: Sink, V: Vault, C: Clock, G: Gate, R: Threads + Wai
             image,
             digests,
             workers,
-        } => verify(rt, alloc, Sha256Hash, image, digests, workers, sink, vault),
+        } => verify_image(rt, alloc, Sha256Hash, image, digests, workers, sink, vault),
         Command::Extract {
             honest,
             suspect,
             digests,
-        } => extract(alloc, Sha256Hash, honest, suspect, digests, sink, vault),
+        } => compare_images(alloc, Sha256Hash, honest, suspect, digests, sink, vault),
         Command::Replay { journal, save } => {
-            replay(alloc, Sha256Hash, journal, save, sink, vault)
+            replay_journal(alloc, Sha256Hash, journal, save, sink, vault)
         }
-        Command::Upgrade { image, save } => upgrade(alloc, image, save, sink, vault),
+        Command::Upgrade { image, save } => upgrade_image(alloc, image, save, sink, vault),
         Command::Receipt {
             image,
             digests,
@@ -330,7 +328,7 @@ pub fn ledgerd<S: Source, K: Sink, V: Vault, C: Clock, G: Gate, R: Threads + Wai
             digests,
             save,
         } => {
-            receipt(
+            make_receipt(
                 alloc,
                 Sha256Hash,
                 image,
@@ -342,13 +340,13 @@ pub fn ledgerd<S: Source, K: Sink, V: Vault, C: Clock, G: Gate, R: Threads + Wai
             )
         }
         Command::Check { receipt, digests } => {
-            check(alloc, Sha256Hash, receipt, digests, sink, vault)
+            check_receipt(alloc, Sha256Hash, receipt, digests, sink, vault)
         }
         Command::AsOf { image, n, digests } => {
             answer_as_of(alloc, Sha256Hash, image, n, digests, source, sink, vault)
         }
         Command::Gen { count } => generate(rt, alloc, Sha256Hash, count, sink),
-        Command::Help(which) => tell(help_text(which), sink),
-        Command::Version => tell(VERSION, sink),
+        Command::Help(which) => tell_text(help_text(which), sink),
+        Command::Version => tell_text(VERSION, sink),
     }
 }

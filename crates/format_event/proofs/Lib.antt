@@ -1,7 +1,7 @@
 mod Growing
 mod LeafExact
 pub mod Leaves
-mod Sizes
+pub mod Sizes
 mod Texts
 pub mod TypeLaws
 pub mod TypedExact

@@ -78,14 +78,17 @@ bytes_of_type (types.VarBinary n) x r e =
     omega (arith, leb-true _ _ b.1, leb-true _ _ e)
 bytes_of_type types.Date x r e = absurd cc
 
-pub value_small : (ty : SqlType) (v : Value) → is_stored v ty ≡ true → is_text v ≡ true → length (value_bytes ty v) < 2 ^ 32
+pub value_short : (ty : SqlType) (v : Value) → is_stored v ty ≡ true → is_text v ≡ true → length (value_bytes ty v) ≤ 16000
 unfolding is_stored u32_field
-value_small ty values.Null e u = omega arith
-value_small ty (values.Num s v) e u = omega (arith, number_small ty v)
-value_small ty (values.Text x) e u =
+value_short ty values.Null e u = omega arith
+value_short ty (values.Num s v) e u = omega (arith, number_small ty v)
+value_short ty (values.Text x) e u =
     let p = and_parts (is_in_range ty) (text_stored ty x) e in
     omega (arith, text_of_type ty x p.0 p.1 u)
-value_small ty (values.Bytes x) e u =
+value_short ty (values.Bytes x) e u =
     let p = and_parts (is_in_range ty) (bytes_stored ty x) e in
     omega (arith, bytes_of_type ty x p.0 p.1)
-value_small ty (values.Date d) e u = omega arith
+value_short ty (values.Date d) e u = omega arith
+
+pub value_small : (ty : SqlType) (v : Value) → is_stored v ty ≡ true → is_text v ≡ true → length (value_bytes ty v) < 2 ^ 32
+value_small ty v e u = omega (arith, value_short ty v e u)

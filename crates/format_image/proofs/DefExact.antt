@@ -24,9 +24,10 @@ use Rattle.spec_model.specs.Catalog.{Defs}
 use Rattle.spec_model.specs.Create.{is_long}
 use Rattle.spec_model.specs.SystemTables.{kind_code}
 use Rattle.spec_model.specs.ProperNames.{is_name_byte, is_proper_name, has_its_history}
+use Rattle.spec_model.specs.Lists.{rise_within}
 use Rattle.format_image.specs.declared.version.ImageVersion.{ImageVersion}
 use Rattle.format_image.specs.declared.version.ImageVersion.TheVariants.{First, Second}
-use Rattle.format_image.specs.DefBytes.{flag, dropped_bytes, MarkedColumn, column_bytes, IsColumn, marked, rise_within, index_bytes, IsIndex, indexes_bytes, names_bytes, def_bytes, IsDef, Says, IsDefIn, defs_bytes}
+use Rattle.format_image.specs.DefBytes.{flag, dropped_bytes, MarkedColumn, column_bytes, IsColumn, marked, index_bytes, IsIndex, indexes_bytes, names_bytes, def_bytes, IsDef, Says, IsDefIn, defs_bytes}
 use Rattle.format_image.specs.ImageReading.{flag_of, flag_at, dropped_at, name_at, column_type_at, column_of, column_at, without_marks, dropped_among, index_of, index_at, kind_of, kind_at, TableHeading, is_named, named_at, def_of, def_at, ids_are_users, defs_at}
 use Rattle.format_image.proofs.Marks.{without_marked, length-marked, dropped_marked, dropped_rise, marks_back}
 

@@ -6,8 +6,9 @@ use Rattle.std.proofs.lemmas.Bool.{and_parts, eqb-true, lt-ltb}
 use Rattle.std.proofs.lemmas.Bool.Decides.{nat_tests}
 use Rattle.std.proofs.lemmas.List.Elements.{All-head, All-tail}
 use Rattle.sql_value.specs.declared.column.ColumnDef.{ColumnDef}
+use Rattle.spec_model.specs.Lists.{rise_within}
 use Rattle.format_image.specs.declared.version.ImageVersion.{ImageVersion}
-use Rattle.format_image.specs.DefBytes.{MarkedColumn, column_bytes, IsColumn, marked, begins_with, rise_within}
+use Rattle.format_image.specs.DefBytes.{MarkedColumn, column_bytes, IsColumn, marked, begins_with}
 use Rattle.format_image.specs.ImageReading.{without_marks, dropped_among}
 
 -- ---- rising ordinals

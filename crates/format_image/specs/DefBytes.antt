@@ -1,5 +1,5 @@
 -- The definition of a table: its one spelling in bytes.
-use Rattle.std.specs.Prelude.{ℕ, suc, ◌≡◌, ◌<◌, ◌^◌, ◌==◌, ◌&&◌, nat_lt, nat_le, Bool, true, false, List, [], ◌∷◌, ◌++◌, length, flat_map, if◌then◌else◌}
+use Rattle.std.specs.Prelude.{ℕ, suc, ◌≡◌, ◌<◌, ◌^◌, ◌==◌, ◌&&◌, nat_lt, Bool, true, false, List, [], ◌∷◌, ◌++◌, length, flat_map, if◌then◌else◌}
 use Rattle.std.specs.List.{AllByRecursion, list_any}
 use Rattle.base_fields.specs.Fields.{u8_field, u16_field, u32_field, short_field}
 use Rattle.sql_value.specs.Stored.{is_in_range}
@@ -12,6 +12,7 @@ use Rattle.spec_model.specs.SystemTables.{kind_code}
 use Rattle.format_image.specs.declared.version.ImageVersion.{ImageVersion}
 use Rattle.format_image.specs.declared.version.ImageVersion.TheVariants.{First, Second}
 use Rattle.spec_model.specs.ProperNames.{is_proper_name, has_its_history}
+use Rattle.spec_model.specs.Lists.{rise_within}
 
 -- the number of the version in an image
 abbrev pub version_code : ImageVersion → ℕ
@@ -46,11 +47,6 @@ pub record IsColumn (c : ColumnDef) : Type 0 where
 abbrev pub marked : List ℕ → ℕ → List ColumnDef → List MarkedColumn
 marked dropped n [] = []
 marked dropped n (c ∷ cs) = (c, list_any (λ d. d == n) dropped) ∷ marked dropped (suc n) cs
-
--- the numbers are above this one, rise strictly, and none is above the limit
-abbrev pub rise_within : ℕ → ℕ → List ℕ → Bool
-rise_within last limit [] = true
-rise_within last limit (n ∷ ns) = nat_lt last n && nat_le n limit && rise_within n limit ns
 
 -- whether the first of these is this one, and those behind it
 abbrev pub begins_with : ℕ → List ℕ → Bool × List ℕ

@@ -3,7 +3,8 @@
 ghost use Rattle.std.specs.Prelude.{All, ◌≡◌, ◌<◌, ◌^◌, ◌++◌, OnOk, flat_map, length, true};
 ghost use Rattle.base_fields.specs.Fields.{u16_field};
 ghost use Rattle.spec_model.specs.SystemTables.{kind_code};
-ghost use Rattle.format_image.specs.DefBytes.{flag, dropped_bytes, column_bytes, IsColumn, marked, begins_with, rise_within, index_bytes, IsIndex, columns_bytes, indexes_bytes, names_bytes, def_bytes, IsDef, defs_bytes};
+ghost use Rattle.spec_model.specs.Lists.{rise_within};
+ghost use Rattle.format_image.specs.DefBytes.{flag, dropped_bytes, column_bytes, IsColumn, marked, begins_with, index_bytes, IsIndex, columns_bytes, indexes_bytes, names_bytes, def_bytes, IsDef, defs_bytes};
 
 use crate::version::ImageVersion;
 use base_fields::{put_short, put_u8, put_u16, put_u32};

@@ -10,3 +10,4 @@ mod tables;
 pub use law_image::legal_images_are_encodable;
 pub use parts::split;
 pub use room::tables_have_room;
+pub use stored::copy_stored;

@@ -34,12 +34,13 @@ pub(crate) fn copy_in(
     ensures { IfOk result (λ value. value ≡ stored_at row.now (suc place)) }
 {
     match row.get(place) {
-        Some(value) => copy_of(value),
+        Some(value) => copy_stored(value),
         None => Ok(None),
     }
 }
 
-fn copy_of(value: &Option<TypedValue>) -> Result<Option<TypedValue>, Memory>
+/// A copy of a stored value; none is NULL.
+pub fn copy_stored(value: &Option<TypedValue>) -> Result<Option<TypedValue>, Memory>
     ensures { IfOk result (λ copy. copy ≡ value.now) }
 {
     match value {

@@ -1,8 +1,7 @@
 -- Versions in the image of a legal journal have NULL only where their columns took it when they started.
-use Rattle.std.proofs.Common.{◌≡◌, ◌≢◌, ◌+◌, ℕ, pos, refl, sym, ap, ◌∙◌, inl, inr, arith, Bool, true, false, true≢false, List, [], ◌∷◌, Option, Some, None, filter}
+use Rattle.std.proofs.Common.{◌≡◌, ◌+◌, ℕ, pos, refl, sym, ◌∙◌, inl, inr, arith, Bool, true, false, true≢false, List, [], ◌∷◌, Option, Some, None, filter}
 use Rattle.std.proofs.lemmas.Bool.Decides.{Decides-int_eq}
 use Rattle.std.specs.List.{AllByRecursion, list_any}
-use Rattle.std.specs.Ordering.{int_eq}
 use Rattle.std.specs.Prelude.{◌&&◌, ◌||◌, not, if◌then◌else◌, IfSome, is_some}
 use Rattle.sql_value.specs.declared.value.Value.{Value}
 use Rattle.sql_value.specs.declared.value.Value.TheVariants.{Null, Num, Text, Bytes, Date}
@@ -10,10 +9,10 @@ use Rattle.sql_types.specs.declared.entry.TxEntry.{TxEntry}
 use Rattle.sql_types.specs.declared.version.TypedValue.{TypedValue}
 use Rattle.sql_types.specs.declared.version.Version.{Version}
 use Rattle.spec_model.specs.Keys.{value_at}
-use Rattle.spec_model.specs.Rows.{Row, EventId, values_of}
+use Rattle.spec_model.specs.Rows.{EventId, values_of}
 use Rattle.spec_model.specs.SystemTables.{columns_columns}
 use Rattle.spec_history.specs.Lists.{Some_of}
-use Rattle.law_frame.proofs.Alls.{all_weaker, all_both}
+use Rattle.law_frame.proofs.Alls.{all_weaker}
 use Rattle.law_frame.proofs.SameKeys.{and_true}
 use Rattle.law_journal.specs.Kept.{IsEarlier}
 use Rattle.law_journal.proofs.Order.{then_}

@@ -2,9 +2,7 @@
 use Rattle.std.proofs.Common.{◌≡◌, ℕ, ◌+◌, refl, ap, ◌∙◌, true, List, [], ◌∷◌, ◌++◌, length, map, get_or, Option, Some, None, arith}
 use Rattle.std.proofs.lemmas.Bool.{eq-eqb}
 use Rattle.std.proofs.lemmas.List.{length-append}
-use Rattle.std.specs.Ordering.{is_eq, ordering_reverse}
-use Rattle.std.specs.declared.cmp.Ordering.{Ordering}
-use Rattle.std.specs.declared.cmp.Ordering.TheVariants.{Less, Equal, Greater}
+use Rattle.std.specs.Ordering.{is_eq}
 use Rattle.sql_value.specs.declared.sql_type.SqlType.{SqlType}
 use Rattle.sql_value.specs.declared.value.Value.{Value}
 use Rattle.sql_value.specs.Order.{value_cmp, value_total}
@@ -17,6 +15,7 @@ use Rattle.spec_model.specs.Catalog.{Tables, Defs, defs_of}
 use Rattle.spec_model.specs.Journals.{serial, IsLegal}
 use Rattle.spec_model.specs.Rows.{live}
 use Rattle.spec_model.specs.Script.{Reading}
+use Rattle.law_frame.proofs.SameKeys.{own_reverse}
 use Rattle.format_image.specs.Image.{image_of}
 use Rattle.format_image.specs.Rows.{Stored, filled_table, index_rows, rows_by_part, table_rows}
 use Rattle.spec_verify.specs.declared.place.Place.TheVariants as at
@@ -25,11 +24,6 @@ use Rattle.spec_verify.specs.Indexes.{same_value, same_row, same_rows, index_hol
 use Rattle.spec_verify.specs.Versions.{same_type}
 use Rattle.law_accepts.proofs.Firsts.{both, passes, neither}
 use Rattle.law_accepts.proofs.Shown.{defs_shown}
-
-own_reverse : (o : Ordering) → o ≡ ordering_reverse o → is_eq o ≡ true
-own_reverse Less e = cc
-own_reverse Equal e = refl
-own_reverse Greater e = cc
 
 own_value : (v : Value) → is_eq (value_cmp v v) ≡ true
 own_value v = own_reverse (value_cmp v v) (value_total.antisymm v v)

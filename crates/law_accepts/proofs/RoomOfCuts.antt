@@ -22,6 +22,7 @@ use Rattle.spec_model.specs.SystemTables.{first_tables}
 use Rattle.law_frame.proofs.Alls.{all_append}
 use Rattle.law_frame.proofs.ChangeSets.{carries_change_set_out}
 use Rattle.law_frame.proofs.WholeScripts.{whole_script}
+use Rattle.law_frame.proofs.UndoneTables.{first_few as all_cut}
 use Rattle.spec_history.specs.Journals.{blocks}
 use Rattle.law_journal.specs.Described.{Described}
 use Rattle.law_journal.specs.Fine.{HasLive, IsFine, IsFineIn, AllFine}
@@ -35,6 +36,7 @@ use Rattle.law_journal.proofs.Serials.{cut_legal, legal_described}
 use Rattle.law_journal.proofs.Statements.{change_set_fine}
 use Rattle.law_journal.proofs.Tables.{Split, split_from, once, kept_changed}
 use Rattle.spec_ledger.proofs.Adding.{serial_more}
+use Rattle.spec_verify.proofs.EncodedSo.{all_rest as rest_of, all_front as front_of}
 use Rattle.law_image.specs.Room.{VersionFitsFormat, TableFitsFormat, FitsImageFormat}
 use Rattle.law_accepts.proofs.Along.{more_legal}
 use Rattle.law_accepts.proofs.Begins.{begins}
@@ -45,14 +47,6 @@ AllRoom versions = AllByRecursion VersionFitsFormat versions
 
 abbrev TablesFitFormat : Tables → Type 0
 TablesFitFormat T = AllByRecursion TableFitsFormat T
-
-front_of : {A : Type 0} (P : A → Type 0) (xs ys : List A) → AllByRecursion P (xs ++ ys) → AllByRecursion P xs
-front_of P [] ys h = tt
-front_of P (x ∷ xs) ys h = (h.0, front_of P xs ys h.1)
-
-rest_of : {A : Type 0} (P : A → Type 0) (xs ys : List A) → AllByRecursion P (xs ++ ys) → AllByRecursion P ys
-rest_of P [] ys h = h
-rest_of P (x ∷ xs) ys h = rest_of P xs ys h.1
 
 -- ---- versions
 
@@ -189,11 +183,6 @@ module _ (reads : Reading) where
       (subst (λ (J : List JournalItem). TablesFitFormat (serial reads J)) (sym parts) r)
 
 -- ---- counts
-
-all_cut : {A : Type 0} (P : A → Type 0) (m : ℕ) (xs : List A) → AllByRecursion P xs → AllByRecursion P (take m xs)
-all_cut P zero xs h = tt
-all_cut P (suc m) [] h = tt
-all_cut P (suc m) (x ∷ xs) h = (h.0, all_cut P m xs h.1)
 
 blocks_cut : (items : List JournalItem) (m : ℕ) → blocks (take m items) ≤ blocks items
 blocks_cut items zero = omega arith

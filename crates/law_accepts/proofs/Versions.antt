@@ -1,9 +1,8 @@
 -- Each version in the image of a legal journal fits its table as it was when the version started, and follows the
 -- one before it.
-use Rattle.std.proofs.Common.{◌≡◌, ◌≤◌, ◌<◌, ◌⊎◌, ℕ, pos, length, inl, inr, refl, ap, sym, subst, ◌∙◌, List, [], ◌∷◌, map, flat_map, Bool, true, false, Option, Some, None, arith, nat_lt}
+use Rattle.std.proofs.Common.{◌≡◌, ◌≤◌, ◌<◌, ◌⊎◌, ℕ, inl, inr, refl, ap, sym, subst, ◌∙◌, List, [], ◌∷◌, map, flat_map, Bool, true, false, Option, Some, None, arith, nat_lt}
 use Rattle.std.specs.Prelude.{◌==◌, ◌&&◌, ◌||◌, not, if◌then◌else◌, IfSome, is_some, is_none}
 use Rattle.std.specs.List.{AllByRecursion, list_any}
-use Rattle.std.specs.List.Sorted.{IsPermutation}
 use Rattle.std.proofs.lemmas.Bool.{cases_lt, eq-eqb, eqb-true, le-leb, lt-leb, lt-ltb, ltb-true}
 use Rattle.sql_value.specs.declared.column.ColumnDef.{ColumnDef}
 use Rattle.sql_value.specs.declared.column.TableKind.{TableKind}

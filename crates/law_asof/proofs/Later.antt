@@ -13,10 +13,10 @@ use Rattle.spec_model.specs.Journals.{cut, upto, IsOther, after_item, serial_fro
 use Rattle.spec_model.specs.Rows.{EventId}
 use Rattle.spec_model.specs.Script.{Reading}
 use Rattle.spec_model.specs.SystemTables.{first_tables}
-use Rattle.law_catalog_rows.specs.IsEncodableDef.{is_among}
+use Rattle.spec_model.specs.Lists.{is_among}
 use Rattle.law_journal.specs.Kept.{IsEarlier}
 use Rattle.law_journal.specs.Serial.{place_in, HasTx, IsOf, TableOf}
-use Rattle.law_journal.proofs.Serials.{legal_tables, legal_described}
+use Rattle.law_journal.proofs.Serials.{cut_legal, legal_tables, legal_described}
 use Rattle.spec_ledger.proofs.Adding.{serial_more}
 use Rattle.law_accepts.proofs.Along.{more_legal}
 use Rattle.law_accepts.proofs.Begins.{begins}
@@ -81,7 +81,7 @@ module _ (A : List JournalItem) where
 -- ---- the items that follow
 
 module _ (reads : Reading) where
-  parted : (before : List JournalItem) (T : Tables) (A B : List JournalItem) → IsLegalFrom reads before T (A ++ B) → IsLegalFrom reads before T A × IsLegalFrom reads (before ++ A) (serial_from reads T A) B
+  pub parted : (before : List JournalItem) (T : Tables) (A B : List JournalItem) → IsLegalFrom reads before T (A ++ B) → IsLegalFrom reads before T A × IsLegalFrom reads (before ++ A) (serial_from reads T A) B
   unfolding serial_from
   parted before T [] B legal = (tt, subst (λ (l : List JournalItem). IsLegalFrom reads l T B) (sym (append-nil before)) legal)
   parted before T (i ∷ A) B legal =
@@ -90,7 +90,7 @@ module _ (reads : Reading) where
         subst (λ (l : List JournalItem). IsLegalFrom reads l (serial_from reads (after_item reads T i) A) B) (append_assoc before (i ∷ []) A) r.1,
       )
 
-  append_serial : (T : Tables) (A B : List JournalItem) → serial_from reads T (A ++ B) ≡ serial_from reads (serial_from reads T A) B
+  pub append_serial : (T : Tables) (A B : List JournalItem) → serial_from reads T (A ++ B) ≡ serial_from reads (serial_from reads T A) B
   unfolding serial_from
   append_serial T [] B = refl
   append_serial T (i ∷ A) B = append_serial (after_item reads T i) A B
@@ -139,7 +139,7 @@ module _ (reads : Reading) where
       ap (λ (l : List JournalItem). left_of (among (cut items m)) (versions_of (serial reads l) id)) (sym whole)
       ∙ front_stays (take m items) (drop m items) id (subst (IsLegal reads) (sym whole) legal)
 
-  upto_is_cut : (items : List JournalItem) (n : ℕ) → (m : ℕ) × (upto items n ≡ cut items m)
+  pub upto_is_cut : (items : List JournalItem) (n : ℕ) → (m : ℕ) × (upto items n ≡ cut items m)
   upto_is_cut items zero = (0, refl)
   upto_is_cut [] (suc n) = (0, refl)
   upto_is_cut (Tx id session time explicit lines ∷ is) (suc n) = let r = upto_is_cut is n in (suc r.0, ap (λ (l : List JournalItem). Tx id session time explicit lines ∷ l) r.1)
@@ -149,3 +149,6 @@ module _ (reads : Reading) where
   upto_stays items n id legal =
       let r = upto_is_cut items n in
       subst (λ (l : List JournalItem). left_of (among l) (versions_of (serial reads items) id) ≡ versions_of (serial reads l) id) (sym r.1) (cut_stays items r.0 id legal)
+
+  pub upto_legal : (items : List JournalItem) (n : ℕ) → IsLegal reads items → IsLegal reads (upto items n)
+  upto_legal items n legal = let r = upto_is_cut items n in subst (IsLegal reads) (sym r.1) (cut_legal reads items r.0 legal)

@@ -11,11 +11,11 @@ use Rattle.spec_model.specs.Catalog.{versions_of}
 use Rattle.spec_model.specs.Journals.{upto, serial, IsOther, IsLegal}
 use Rattle.spec_model.specs.Runs.{SoundTable, Sound}
 use Rattle.spec_model.specs.Script.{Reading}
+use Rattle.spec_model.specs.Lists.{is_among}
 use Rattle.spec_history.specs.Journals.{ids_of}
 use Rattle.law_frame.proofs.Alls.{all_weaker, all_both}
 use Rattle.law_frame.proofs.LegalSound.{legal_sound}
 use Rattle.law_frame.proofs.UndoneTables.{own_versions}
-use Rattle.law_catalog_rows.specs.IsEncodableDef.{is_among}
 use Rattle.format_image.specs.Image.{image_of}
 use Rattle.format_image.specs.Rows.{filled_version, table_rows}
 use Rattle.law_accepts.proofs.Ids.{same_ids}

@@ -1,16 +1,22 @@
 //! Laws of earlier states.
 
-ghost use Rattle.std.specs.Prelude.{ℕ, ◌≡◌, List, map};
+ghost use Rattle.std.specs.Prelude.{ℕ, ◌≡◌, List, map, Option};
 ghost use Rattle.std.specs.List.{AllByRecursion};
 ghost use Rattle.sql_types.specs.declared.journal.JournalItem.{JournalItem};
+ghost use Rattle.sql_types.specs.declared.statement.Stmt.{Stmt};
 ghost use Rattle.spec_history.specs.Journals.{ids_of};
-ghost use Rattle.spec_model.specs.Catalog.{versions_of};
+ghost use Rattle.spec_model.specs.Catalog.{defs_of, versions_of};
 ghost use Rattle.spec_model.specs.Journals.{cut, upto, serial, IsLegal};
 ghost use Rattle.spec_model.specs.Script.{Reading};
-ghost use Rattle.law_catalog_rows.specs.IsEncodableDef.{is_among};
+ghost use Rattle.spec_model.specs.Lists.{is_among};
+ghost use Rattle.spec_syntax.specs.Text.{reading_of};
+ghost use Rattle.law_catalog_rows.specs.Written.{ReadsWritten};
 ghost use Rattle.format_image.specs.Image.{image_of};
-ghost use Rattle.format_image.specs.Rows.{filled_version, table_rows};
-ghost use Rattle.spec_asof.specs.DatabaseAt.{first_ids, left_of, versions_at};
+ghost use Rattle.format_image.specs.Rows.{filled_table, filled_version, table_rows};
+ghost use Rattle.spec_asof.specs.Answer.{answer_of};
+ghost use Rattle.spec_asof.specs.DatabaseAt.{database_at, first_ids, left_of, versions_at};
+
+use law_catalog_text::readings_of_the_grammar_give_written;
 
 /// The versions of each table to which a legal journal leads, without starts and ends of transactions behind its
 /// first `m` items, are those to which these items lead; and so of its first `n` transactions. Whatever comes later
@@ -33,3 +39,27 @@ pub fn images_tell_earlier_versions()
         → AllByRecursion (λ t. versions_at (is_among (first_ids (image_of h reads database items).entries n)) (table_rows t)
         ≡ map (filled_version t.def.columns) (versions_of (serial reads (upto items n)) t.def.id)) (serial reads items) }
 {}
+
+/// The image of a legal journal tells the whole database behind its first `n` transactions, whatever comes later: its
+/// definitions are those to which the first `n` transactions lead, each with the names, the columns and the indexes of
+/// then and dropped only where it was by then; and its tables are these tables, each version with a value for each
+/// column that its table had then, NULL where it has none. So each text is answered over it as it was then. This holds
+/// where each statement that is read is one that the grammar may have written, as in journals of each version.
+pub fn images_tell_earlier_databases()
+    ensures definitions { (h : List ℕ → List ℕ) (reads : Reading) (database : List ℕ) (items : List JournalItem)
+        (n : ℕ) → ReadsWritten reads → IsLegal reads items
+        → defs_of (database_at (image_of h reads database items) n) ≡ defs_of (serial reads (upto items n)) }
+    ensures tables { (h : List ℕ → List ℕ) (reads : Reading) (database : List ℕ) (items : List JournalItem) (n : ℕ)
+        → ReadsWritten reads → IsLegal reads items
+        → database_at (image_of h reads database items) n ≡ map filled_table (serial reads (upto items n)) }
+    ensures answers { (h : List ℕ → List ℕ) (reads : Reading) (database : List ℕ) (items : List JournalItem) (n : ℕ)
+        (text : Option Stmt) → ReadsWritten reads → IsLegal reads items
+        → answer_of (database_at (image_of h reads database items) n) text
+        ≡ answer_of (serial reads (upto items n)) text }
+    ensures versions { (h : List ℕ → List ℕ) (version : ℕ) (database : List ℕ) (items : List JournalItem) (n : ℕ)
+        → IsLegal (reading_of version) items
+        → database_at (image_of h (reading_of version) database items) n
+        ≡ map filled_table (serial (reading_of version) (upto items n)) }
+{
+    readings_of_the_grammar_give_written();
+}

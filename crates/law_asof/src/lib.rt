@@ -2,5 +2,10 @@
 #![tactic(auto)]
 
 mod laws;
+mod samples;
 
-pub use laws::{images_tell_earlier_versions, later_transactions_leave_what_earlier_ones_made};
+pub use laws::{
+    images_tell_earlier_databases, images_tell_earlier_versions,
+    later_transactions_leave_what_earlier_ones_made,
+};
+pub use samples::altered_tables_are_told_as_they_were;

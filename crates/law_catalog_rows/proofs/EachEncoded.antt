@@ -1,5 +1,5 @@
 -- Rows that spell definitions do so in any order, and with rows about one table more where its definition changes.
-use Rattle.std.proofs.Common.{◌≡◌, ◌≢◌, ℕ, ℤ, pos, ◌+◌, inl, inr, refl, sym, ap, subst, ◌∙◌, List, [], ◌∷◌, ◌++◌, length, arith}
+use Rattle.std.proofs.Common.{◌≡◌, ◌≢◌, ℕ, ℤ, pos, ◌+◌, inl, inr, refl, sym, ap, subst, ◌∙◌, List, [], ◌∷◌, ◌++◌, length, arith, append-nil}
 use Rattle.std.proofs.lemmas.List.Sorted.{length_permutation}
 use Rattle.std.specs.List.{AllByRecursion}
 use Rattle.std.specs.List.Sorted.{IsPermutation}
@@ -47,13 +47,9 @@ by_rows first first' second second' def e f h = record {
 same_number : (m n : ℕ) → pos m ≡ pos n → m ≡ n
 same_number m n e = cc
 
-no_more : (xs : List Row) → xs ++ [] ≡ xs
-no_more [] = refl
-no_more (x ∷ xs) = ap (λ (ys : List Row). x ∷ ys) (no_more xs)
-
 only_these : (n : ℕ) (rows others : List Row) → AllByRecursion (StartsWith n) rows → about (pos n) others ≡ [] → about (pos n) (rows ++ others) ≡ about (pos n) rows
 only_these n rows others a e =
-    more_about n rows others a ∙ ap (λ (xs : List Row). rows ++ xs) e ∙ sym (more_about n rows [] a) ∙ ap (about (pos n)) (no_more rows)
+    more_about n rows others a ∙ ap (λ (xs : List Row). rows ++ xs) e ∙ sym (more_about n rows [] a) ∙ ap (about (pos n)) (append-nil rows)
 
 module _ (first second : List Row) (ds : Defs) (n : ℕ) (ids : IdsFrom n ds) (h : EncodeEach first second ds)
     (def : TableDef) (tables items : List Row) (a : AllByRecursion (StartsWith def.id) tables) (b : AllByRecursion (StartsWith def.id) items) where

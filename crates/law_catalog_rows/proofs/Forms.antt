@@ -1,5 +1,5 @@
 -- What the checks of CREATE TABLE and CREATE INDEX leave.
-use Rattle.std.proofs.Common.{◌≡◌, ◌≤◌, ◌<◌, ℕ, ◌+◌, inl, inr, refl, sym, ap, subst, ◌∙◌, Bool, true, false, List, [], ◌∷◌, ◌++◌, map, flat_map, length, Option, Some, None, Ok, arith, append_assoc, length-append}
+use Rattle.std.proofs.Common.{◌≡◌, ◌≤◌, ◌<◌, ℕ, ◌+◌, inl, inr, refl, sym, ap, subst, ◌∙◌, Bool, true, false, List, [], ◌∷◌, ◌++◌, map, flat_map, length, Option, Some, None, Ok, arith, append_assoc, append-nil, length-append}
 use Rattle.std.proofs.lemmas.Bool.{eq-eqb, ne_eqb}
 use Rattle.std.proofs.lemmas.Bool.Decides.{nat_tests}
 use Rattle.std.proofs.lemmas.List.{map-append, length-map}
@@ -13,11 +13,9 @@ use Rattle.sql_value.specs.declared.refusal.Refusal.{Refusal}
 use Rattle.sql_value.specs.declared.refusal.Refusal.TheVariants.{NoSuchTable, NameConflict, NoSuchColumn, NullNotAllowed, ReadOnlyTable, LimitExceeded}
 use Rattle.sql_types.specs.declared.table.TableDef.{TableDef}
 use Rattle.sql_types.specs.declared.table.IndexDef.{IndexDef}
-use Rattle.sql_types.specs.declared.table.Part.{Part}
-use Rattle.sql_types.specs.declared.table.Part.TheVariants.{Base, History, View, System}
 use Rattle.sql_types.specs.declared.statement.CreateTable.{CreateTable}
 use Rattle.sql_types.specs.declared.statement.CreateIndex.{CreateIndex}
-use Rattle.spec_model.specs.Lists.{has_name, repeats, numbered}
+use Rattle.spec_model.specs.Lists.{has_name, repeats, numbered, is_among}
 use Rattle.spec_model.specs.Limits.{max_key_columns, max_columns}
 use Rattle.spec_model.specs.Catalog.{Defs, Tables, defs_of, find_part}
 use Rattle.spec_model.specs.Checks.{refused_if, is_standing, is_declared}
@@ -25,7 +23,7 @@ use Rattle.spec_model.specs.LiveColumns.{live_columns}
 use Rattle.spec_model.specs.Create.{names_of, table_names, all_names, is_ledger_name, history_of, key_position_of, keyed, table_def, has_bad_name, exceeds_limit, has_null_key, next_id, create_check, index_def, index_check_in, index_check, ordinal_at, ordinals_of, with_index}
 use Rattle.spec_model.specs.Agreement.{IdsFrom}
 use Rattle.law_frame.proofs.Alls.{all_weaker, all_both, all_append, all_map}
-use Rattle.law_frame.proofs.BaseTables.{found_is_users}
+use Rattle.law_frame.proofs.BaseTables.{base_alone, found_is_users}
 use Rattle.law_frame.proofs.Checked.{Led, led}
 use Rattle.law_frame.proofs.NamedPart.{was_found}
 use Rattle.law_frame.proofs.SameKeys.{or_false, and_true}
@@ -36,7 +34,7 @@ use Rattle.law_journal.specs.Fine.{OfTable}
 use Rattle.law_journal.proofs.Created.{Created, created, Indexed, indexed}
 use Rattle.law_journal.proofs.DefLists.{redef}
 use Rattle.law_journal.proofs.Statements.{has_indexed_table}
-use Rattle.law_catalog_rows.specs.IsEncodableDef.{is_among, number_repeats}
+use Rattle.law_catalog_rows.specs.IsEncodableDef.{number_repeats}
 use Rattle.law_catalog_rows.proofs.Ordinals.{ordinals_differ}
 use Rattle.law_catalog_rows.proofs.Declared.{live_declared}
 use Rattle.law_catalog_rows.proofs.Names.{other_way}
@@ -144,11 +142,7 @@ made defs c def e =
 -- ---- lists of definitions
 
 fresh_more : (before : List (List ℕ)) (all : List (List (List ℕ))) (names : List (List ℕ)) → AllFresh before all → list_any (has_name (before ++ flat_map (λ ns. ns) all)) names ≡ false → AllFresh before (all ++ names ∷ [])
-fresh_more before [] names f e = (ap (λ (xs : List (List ℕ)). list_any (has_name xs) names) (sym (no_more before)) ∙ e, tt)
-  where
-    no_more : (xs : List (List ℕ)) → xs ++ [] ≡ xs
-    no_more [] = refl
-    no_more (x ∷ xs) = ap (λ (ys : List (List ℕ)). x ∷ ys) (no_more xs)
+fresh_more before [] names f e = (ap (λ (xs : List (List ℕ)). list_any (has_name xs) names) (sym (append-nil before)) ∙ e, tt)
 fresh_more before (ns ∷ all) names f e =
     (f.0, fresh_more (before ++ ns) all names f.1 (ap (λ (xs : List (List ℕ)). list_any (has_name xs) names) (append_assoc before ns (flat_map (λ ns. ns) all) ∙ ap (λ (xs : List (List ℕ)). before ++ xs) (sym (flat_map-cons (λ ns. ns) ns all))) ∙ e))
 
@@ -190,12 +184,6 @@ ordinals_from_one : (columns : List ColumnDef) (names : List (List ℕ)) → lis
 ordinals_from_one columns [] e = tt
 ordinals_from_one columns (n ∷ ns) e = let p = and_true (is_declared columns n) (list_all (is_declared columns) ns) e in (ordinal_from_one (place_of columns n) p.0, ordinals_from_one columns ns p.1)
 
-standing_base : (def : TableDef) (p : Part) → not (is_standing def p) ≡ false → p ≡ Base
-standing_base def Base e = refl
-standing_base def History e = cc
-standing_base def View e = cc
-standing_base def System e = cc
-
 -- the new index is of a user's table; it has the statement's name, which is new, and an ordinal for each of its columns
 pub record NewIndex (c : CreateIndex) (x : TableDef × IndexDef) : Type 0 where
   pub users : 2 < x.0.id
@@ -215,7 +203,7 @@ new_index defs c x e =
     let names = or_false (has_name (map (λ i. i.name) old.indexes) c.name) (repeats c.columns) p.0.first in
     let declared : list_all (is_declared old.columns) c.columns ≡ true = live_declared old c.columns (not_not _ p.0.fourth) in
     subst (NewIndex c) (sym p.1) (record {
-      users = found_is_users defs c.table l.value (was_found NoSuchTable (find_part defs c.table) l.value l.was) (standing_base old l.value.1 p.0.third);
+      users = found_is_users defs c.table l.value (was_found NoSuchTable (find_part defs c.table) l.value l.was) (base_alone old l.value.1 p.0.third);
       name = refl;
       free = names.0;
       count = length-map (map (place_of old.columns) c.columns) ordinal_at ∙ length-map c.columns (place_of old.columns);

@@ -7,11 +7,11 @@ use Rattle.std.specs.Prelude.{◌==◌, ◌||◌, not, nat_le, nat_lt, cond, pos
 use Rattle.std.specs.List.{AllByRecursion, list_all, position_or_len, range_with_len}
 use Rattle.std.specs.Str.{bytes_eq}
 use Rattle.sql_value.specs.declared.column.ColumnDef.{ColumnDef}
-use Rattle.spec_model.specs.Lists.{has_name, repeats}
+use Rattle.spec_model.specs.Lists.{has_name, repeats, is_among}
 use Rattle.spec_model.specs.Checks.{is_declared}
 use Rattle.spec_model.specs.Create.{names_of, ordinal_at, key_position_of}
 use Rattle.law_frame.proofs.SameKeys.{or_false, and_true}
-use Rattle.law_catalog_rows.specs.IsEncodableDef.{is_among, is_between, greatest, positions_of, are_key_positions}
+use Rattle.law_catalog_rows.specs.IsEncodableDef.{is_between, greatest, positions_of, are_key_positions}
 use Rattle.law_catalog_rows.specs.Formed.{HasKeyPositions}
 use Rattle.law_catalog_rows.proofs.Declared.{declared_is}
 use Rattle.law_catalog_rows.proofs.Names.{other_way}

@@ -6,10 +6,10 @@ use Rattle.std.specs.Prelude.{◌==◌, not, position, if◌then◌else◌}
 use Rattle.std.specs.List.{AllByRecursion}
 use Rattle.std.specs.Str.{bytes_eq}
 use Rattle.sql_value.specs.declared.column.ColumnDef.{ColumnDef}
-use Rattle.spec_model.specs.Lists.{has_name, repeats}
+use Rattle.spec_model.specs.Lists.{has_name, repeats, is_among}
 use Rattle.spec_model.specs.Create.{names_of, ordinal_at, key_position_of}
 use Rattle.law_frame.proofs.SameKeys.{or_false}
-use Rattle.law_catalog_rows.specs.IsEncodableDef.{is_among, number_repeats, positions_of}
+use Rattle.law_catalog_rows.specs.IsEncodableDef.{number_repeats, positions_of}
 use Rattle.law_catalog_rows.proofs.Ordinals.{same_bytes, own_bytes}
 
 module _ (key : List (List ℕ)) where

@@ -1,5 +1,5 @@
 -- The rows of a new index, with those of its table, spell the definition with the index: their items are above all others.
-use Rattle.std.proofs.Common.{◌≡◌, ◌≤◌, ◌<◌, ℕ, ℤ, pos, ◌+◌, refl, sym, ap, subst, ◌∙◌, Bool, true, false, List, [], ◌∷◌, ◌++◌, map, length, arith, append_assoc}
+use Rattle.std.proofs.Common.{◌≡◌, ◌≤◌, ◌<◌, ℕ, ℤ, pos, ◌+◌, refl, sym, ap, subst, ◌∙◌, Bool, true, false, List, [], ◌∷◌, ◌++◌, map, length, arith, append_assoc, append-nil}
 use Rattle.std.proofs.lemmas.Bool.Decides.{Decides-int_eq}
 use Rattle.std.proofs.lemmas.List.Elements.{filter-append}
 use Rattle.std.proofs.lemmas.List.Folds.{list_all-append, list_any-append}
@@ -223,14 +223,10 @@ module _ (limit : ℕ) (news rows : List Row) (n : AllByRecursion (IsNew limit) 
 
 -- ---- the definition
 
-no_more : (xs : List Row) → xs ++ [] ≡ xs
-no_more [] = refl
-no_more (x ∷ xs) = ap (λ (ys : List Row). x ∷ ys) (no_more xs)
-
 indexes_more : (id g : ℕ) (is : List IndexDef) (i : IndexDef) → rows_of_indexes id g (is ++ i ∷ []) ≡ rows_of_indexes id g is ++ index_rows id (length is + g) i
 indexes_more id g [] i =
     let h : g ≡ 0 + g = omega arith in
-    no_more (index_rows id g i) ∙ ap (λ (n : ℕ). index_rows id n i) h
+    append-nil (index_rows id g i) ∙ ap (λ (n : ℕ). index_rows id n i) h
 indexes_more id g (j ∷ is) i =
     ap (λ (xs : List Row). index_rows id g j ++ xs) (indexes_more id (g + 1) is i ∙ ap (λ (n : ℕ). rows_of_indexes id (g + 1) is ++ index_rows id n i) (omega arith))
     ∙ sym (append_assoc (index_rows id g j) (rows_of_indexes id (g + 1) is) (index_rows id (length (j ∷ is) + g) i))

@@ -1,5 +1,5 @@
 -- The rows of a new table spell its definition.
-use Rattle.std.proofs.Common.{◌≡◌, pos, refl, sym, ap, subst, ◌∙◌, false, List, [], ◌∷◌, ◌++◌}
+use Rattle.std.proofs.Common.{◌≡◌, pos, refl, sym, ap, subst, ◌∙◌, false, List, [], ◌∷◌, ◌++◌, append-nil}
 use Rattle.std.proofs.lemmas.List.Sorted.{IsPermutation-refl}
 use Rattle.std.specs.List.{AllByRecursion}
 use Rattle.std.specs.List.Sorted.{IsPermutation}
@@ -14,20 +14,16 @@ use Rattle.law_catalog_rows.specs.Latest.{latest_said}
 use Rattle.law_catalog_rows.proofs.About.{StartsWith, table_starts, columns_start, more_about}
 use Rattle.law_catalog_rows.proofs.Unchanged.{HasNoChange, IsUnchanged, all_said, right_changes, all_follow, table_unchanged, items_unchanged, same_table, same_items}
 
-no_more : (xs : List Row) → xs ++ [] ≡ xs
-no_more [] = refl
-no_more (x ∷ xs) = ap (λ (ys : List Row). x ∷ ys) (no_more xs)
-
 no_index_rows : (def : TableDef) → def.indexes ≡ [] → item_rows def ≡ column_rows def
 unfolding item_rows
-no_index_rows def e = ap (λ (is : List IndexDef). column_rows def ++ rows_of_indexes def.id 1 is) e ∙ no_more (column_rows def)
+no_index_rows def e = ap (λ (is : List IndexDef). column_rows def ++ rows_of_indexes def.id 1 is) e ∙ append-nil (column_rows def)
 
 pub column_rows_start : (def : TableDef) → AllByRecursion (StartsWith def.id) (column_rows def)
 unfolding column_rows
 column_rows_start def = columns_start def.id 1 def.columns
 
 all_about : (def : TableDef) (rows : List Row) → AllByRecursion (StartsWith def.id) rows → about (pos def.id) rows ≡ rows
-all_about def rows h = ap (about (pos def.id)) (sym (no_more rows)) ∙ more_about def.id rows [] h ∙ no_more rows
+all_about def rows h = ap (about (pos def.id)) (sym (append-nil rows)) ∙ more_about def.id rows [] h ∙ append-nil rows
 
 pub new_table_encoded : (def : TableDef) → def.gone ≡ false → def.dropped ≡ [] → def.indexes ≡ [] → EncodeDef (table_row def ∷ []) (column_rows def) def
 new_table_encoded def stands none no_index =

@@ -8,12 +8,12 @@ use Rattle.std.specs.Prelude.{◌==◌, is_some}
 use Rattle.std.specs.List.{list_all}
 use Rattle.std.specs.Str.{bytes_eq}
 use Rattle.sql_value.specs.declared.column.ColumnDef.{ColumnDef}
-use Rattle.spec_model.specs.Lists.{has_name, repeats}
+use Rattle.spec_model.specs.Lists.{has_name, repeats, is_among}
 use Rattle.spec_model.specs.Columns.{place_of}
 use Rattle.spec_model.specs.Checks.{is_declared}
 use Rattle.spec_model.specs.Create.{ordinal_at, ordinals_of}
 use Rattle.law_frame.proofs.SameKeys.{or_false, and_true}
-use Rattle.law_catalog_rows.specs.IsEncodableDef.{is_among, number_repeats}
+use Rattle.law_catalog_rows.specs.IsEncodableDef.{number_repeats}
 
 pub same_bytes : (a b : List ℕ) → bytes_eq a b ≡ true → a ≡ b
 same_bytes a b e = here (bytes_eq a b) (bytes_eq-Decides a b) e

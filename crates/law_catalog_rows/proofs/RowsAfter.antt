@@ -23,7 +23,7 @@ use Rattle.sql_types.specs.declared.version.Version.{Version}
 use Rattle.spec_model.specs.Refusals.{Checked}
 use Rattle.spec_model.specs.Limits.{max_columns}
 use Rattle.spec_model.specs.LiveColumns.{is_dropped}
-use Rattle.spec_model.specs.Lists.{is_among, numbered}
+use Rattle.spec_model.specs.Lists.{is_among, numbered, rise_within}
 use Rattle.spec_model.specs.Rows.{Row, number, stored_row}
 use Rattle.spec_model.specs.Changes.{Change, Starts, Changes, changed_all, row_changes}
 use Rattle.spec_model.specs.Catalog.{Defs, NamedPart, Tables, defs_of, versions_of, changed_table}
@@ -48,7 +48,6 @@ use Rattle.law_journal.proofs.Lift.{found_table, of_weaker}
 use Rattle.law_journal.proofs.Statements.{has_indexed_table}
 use Rattle.law_catalog_rows.specs.Encoded.{live_rows, IsAmong, EncodeDef, EncodeEach, HaveTheirRows}
 use Rattle.law_catalog_rows.specs.Formed.{FormedIndex, Formed, AllFormed}
-use Rattle.law_catalog_rows.specs.IsEncodableDef.{rise_within}
 use Rattle.law_catalog_rows.proofs.Forms.{new_def, indexed_is_users}
 use Rattle.law_catalog_rows.proofs.About.{StartsWith, table_starts}
 use Rattle.law_catalog_rows.proofs.ChangedTables.{system_changed, users_changed}

@@ -9,11 +9,11 @@ use Rattle.sql_value.specs.TypeCodes.{type_code, first_parameter, second_paramet
 use Rattle.sql_types.specs.declared.table.TableDef.{TableDef}
 use Rattle.sql_types.specs.declared.table.IndexDef.{IndexDef}
 use Rattle.sql_types.specs.declared.version.Version.{Version}
-use Rattle.spec_model.specs.Lists.{numbered}
+use Rattle.spec_model.specs.Lists.{numbered, is_among}
 use Rattle.spec_model.specs.Rows.{Row, number, values_of, live}
 use Rattle.spec_model.specs.Catalog.{Defs, Tables, defs_of}
 use Rattle.spec_model.specs.SystemTables.{kind_code, history_value, bit, column_rows, index_rows}
-use Rattle.law_catalog_rows.specs.IsEncodableDef.{is_among, is_encodable_def, has_new_names}
+use Rattle.law_catalog_rows.specs.IsEncodableDef.{is_encodable_def, has_new_names}
 use Rattle.law_catalog_rows.specs.Latest.{latest, latest_said}
 use Rattle.law_catalog_rows.specs.Changes.{changes_are_right, items_follow}
 

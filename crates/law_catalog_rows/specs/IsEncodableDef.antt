@@ -1,5 +1,5 @@
 -- Definitions that may be spelled by rows of the two system tables.
-use Rattle.std.specs.Prelude.{ℕ, pos, ◌==◌, ◌&&◌, ◌||◌, not, nat_lt, nat_le, Bool, true, false, if◌then◌else◌, List, [], ◌∷◌, map, length, Option, Some, None}
+use Rattle.std.specs.Prelude.{ℕ, pos, ◌==◌, ◌&&◌, ◌||◌, not, nat_le, Bool, true, false, if◌then◌else◌, List, [], ◌∷◌, map, length, Option, Some, None}
 use Rattle.std.specs.List.{list_any, list_all, filter, filter_map, range_with_len}
 use Rattle.std.specs.Ordering.{int_cmp, is_lt}
 use Rattle.sql_value.specs.declared.value.Value.{Value}
@@ -8,14 +8,11 @@ use Rattle.sql_value.specs.declared.column.ColumnDef.{ColumnDef}
 use Rattle.sql_value.specs.Stored.{is_in_range}
 use Rattle.sql_types.specs.declared.table.TableDef.{TableDef}
 use Rattle.sql_types.specs.declared.table.IndexDef.{IndexDef}
-use Rattle.spec_model.specs.Lists.{has_name, numbered, repeats}
+use Rattle.spec_model.specs.Lists.{has_name, is_among, numbered, repeats, rise_within}
 use Rattle.spec_model.specs.Rows.{Row}
 use Rattle.spec_model.specs.SystemTables.{tables_def, columns_def}
 use Rattle.spec_model.specs.Create.{names_of, table_names, all_names, is_ledger_name, has_null_key}
 pub use Rattle.spec_model.specs.ProperNames.{is_name_byte, is_proper_name, has_its_history}
-
-abbrev pub is_among : List ℕ → ℕ → Bool
-is_among ns n = list_any (λ m. m == n) ns
 
 abbrev pub number_repeats : List ℕ → Bool
 number_repeats [] = false
@@ -46,11 +43,6 @@ abbrev pub is_encodable_index : ℕ → IndexDef → Bool
 is_encodable_index columns i =
     is_proper_name i.name && is_between 1 4 (length i.ordinals) && list_all (is_between 1 columns) i.ordinals
     && not (number_repeats i.ordinals)
-
--- the numbers are above this one, rise strictly, and none is above the limit
-abbrev pub rise_within : ℕ → ℕ → List ℕ → Bool
-rise_within last limit [] = true
-rise_within last limit (n ∷ ns) = nat_lt last n && nat_le n limit && rise_within n limit ns
 
 -- ordinals of columns, each once, of which none is in the key
 abbrev pub dropped_are_right : TableDef → Bool

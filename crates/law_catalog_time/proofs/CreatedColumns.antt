@@ -1,5 +1,5 @@
 -- What the rows of CREATE TABLE tell of the columns of the new table.
-use Rattle.std.proofs.Common.{◌≡◌, ◌<◌, ℕ, zero, suc, ◌+◌, refl, ap, subst, sym, ◌∙◌, Bool, true, List, [], ◌∷◌, map, length, Option, Some, arith}
+use Rattle.std.proofs.Common.{◌≡◌, ◌<◌, ℕ, zero, suc, ◌+◌, refl, ap, subst, sym, ◌∙◌, true, List, [], ◌∷◌, map, length, Option, Some, arith}
 use Rattle.std.proofs.lemmas.Option.{slice_get_within}
 use Rattle.std.specs.Prelude.{pos, slice_get}
 use Rattle.std.specs.List.{AllByRecursion}

@@ -1,5 +1,5 @@
 -- What the rows of ADD, of DROP COLUMN and of CREATE TABLE leave of what rows tell of the columns of a table.
-use Rattle.std.proofs.Common.{◌≡◌, ◌≢◌, ◌≤◌, ◌<◌, ◌⊎◌, ℕ, zero, suc, ◌+◌, ◌*◌, inl, inr, refl, sym, ap, subst, ◌∙◌, Bool, true, false, List, [], ◌∷◌, ◌++◌, map, length, Option, Some, None, arith, length-append}
+use Rattle.std.proofs.Common.{◌≡◌, ◌≢◌, ◌≤◌, ◌<◌, ◌⊎◌, ℕ, zero, suc, ◌+◌, ◌*◌, inl, inr, refl, sym, ap, subst, Bool, true, false, List, [], ◌∷◌, ◌++◌, map, length, Option, Some, None, arith, length-append}
 use Rattle.std.proofs.lemmas.Bool.{eqb-true, eq-eqb}
 use Rattle.std.proofs.lemmas.List.{length-set}
 use Rattle.std.proofs.lemmas.Option.{slice_get_within}
@@ -10,20 +10,18 @@ use Rattle.sql_types.specs.declared.table.TableDef.{TableDef}
 use Rattle.sql_types.specs.declared.version.Table.{Table}
 use Rattle.sql_types.specs.declared.version.TypedValue.{TypedValue}
 use Rattle.sql_types.specs.declared.version.Version.{Version}
-use Rattle.spec_model.specs.Lists.{numbered, inserted}
-use Rattle.spec_model.specs.Rows.{Row, EventId, start_cmp, started, stored_row, value_or_null, values_of, filled_stored}
-use Rattle.spec_model.specs.Changes.{Starts, changed_all}
+use Rattle.spec_model.specs.Lists.{inserted}
+use Rattle.spec_model.specs.Rows.{Row, EventId, start_cmp, stored_row, value_or_null, values_of, filled_stored}
 use Rattle.spec_model.specs.SystemTables.{columns_columns, bit, column_row, index_row, changed_column_row}
 use Rattle.spec_model.specs.Alter.{column_to_add, with_added, dropped_column, with_dropped}
-use Rattle.spec_model.specs.Effect.{column_starts, with_def}
-use Rattle.spec_history.specs.Lists.{Some_of}
+use Rattle.spec_model.specs.Effect.{with_def}
 use Rattle.law_frame.proofs.Alls.{all_weaker, all_both, all_inserted}
 use Rattle.law_journal.specs.Fits.{FitsSoFar}
 use Rattle.law_journal.specs.Kept.{IsEarlier, IsPast}
 use Rattle.law_journal.proofs.Order.{new_version}
 use Rattle.law_journal.proofs.SoFar.{few}
-use Rattle.law_catalog_time.specs.AsOfStart.{IsAboutColumn, SaysNotNull, IsRowBefore, IsLastBefore, Takes, TakeFrom}
-use Rattle.law_catalog_time.proofs.ToldColumns.{with_one, some_new, some_still, never_both, IsAbout, IsLast, MayBeNull, IsTold, AreTold, NoneBehind, Took, ToldTable, still_told, all_took, still_none}
+use Rattle.law_catalog_time.specs.AsOfStart.{IsAboutColumn, SaysNotNull, IsLastBefore, Takes, TakeFrom}
+use Rattle.law_catalog_time.proofs.ToldColumns.{with_one, some_new, IsAbout, IsLast, IsTold, AreTold, NoneBehind, Took, ToldTable, still_told, all_took, still_none}
 
 -- ---- which column a row is about
 

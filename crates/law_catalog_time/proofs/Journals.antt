@@ -1,7 +1,7 @@
 -- In the tables to which a legal journal leads versions start after the rows about their columns, and respect their columns.
-use Rattle.std.proofs.Common.{◌≡◌, ◌<◌, ℕ, suc, ◌+◌, inl, inr, refl, sym, ap, subst, ◌∙◌, Bool, true, false, List, [], ◌∷◌, ◌++◌, map, Option, Some, None, arith}
-use Rattle.std.proofs.lemmas.Bool.{eq-eqb, ne_eqb}
-use Rattle.std.specs.Prelude.{◌==◌, if◌then◌else◌, IfSome}
+use Rattle.std.proofs.Common.{◌≡◌, ◌<◌, ℕ, suc, ◌+◌, inl, inr, refl, sym, ap, subst, ◌∙◌, List, [], ◌∷◌, ◌++◌, map, Option, Some, None, arith, append_assoc, append-nil}
+use Rattle.std.proofs.lemmas.Bool.{eq-eqb}
+use Rattle.std.specs.Prelude.{IfSome}
 use Rattle.std.specs.List.{AllByRecursion}
 use Rattle.sql_types.specs.declared.journal.JournalItem.{JournalItem}
 use Rattle.sql_types.specs.declared.journal.JournalItem.TheVariants.{Tx, Close}
@@ -25,7 +25,7 @@ use Rattle.law_frame.proofs.WholeScripts.{whole_script}
 use Rattle.sql_types.specs.declared.statement.Stmt.{Stmt}
 use Rattle.spec_model.specs.Effect.{effect}
 use Rattle.law_journal.proofs.Keeping.{statement_kept, statement_described}
-use Rattle.law_journal.proofs.Serials.{no_number}
+use Rattle.law_journal.proofs.Serials.{no_number, own_place, one_tx, place_of_item}
 use Rattle.law_catalog_time.specs.AfterColumns.{VersionsFollowColumns}
 use Rattle.law_catalog_time.specs.AsOfStart.{AllRespectColumns, VersionsRespectColumns}
 use Rattle.law_catalog_time.proofs.Statements.{statement_follows}
@@ -33,16 +33,6 @@ use Rattle.law_catalog_time.proofs.ToldChanges.{ToldIn, AllTold}
 use Rattle.law_catalog_time.proofs.ToldStatements.{statement_told}
 
 -- ---- places
-
-own_place : (id : ℕ) (before : List JournalItem) (item : JournalItem) (rest : List JournalItem) → AllByRecursion (IsOther id) before → place_in (item ∷ rest) id ≡ 0 → place_in (before ++ item ∷ rest) id ≡ tx_count before
-own_place id [] item rest h e = e
-own_place id (Tx other session time opened lines ∷ is) item rest h e = rw (ne_eqb other id h.0) (ap suc (own_place id is item rest h.1 e))
-own_place id (Close k ∷ is) item rest h e = own_place id is item rest h.1 e
-
-one_tx : (before : List JournalItem) (item : JournalItem) → tx_count (before ++ item ∷ []) ≡ tx_count before + tx_count (item ∷ [])
-one_tx [] item = omega arith
-one_tx (Tx other session time opened lines ∷ is) item = omega (arith, one_tx is item)
-one_tx (Close k ∷ is) item = one_tx is item
 
 -- ---- between transactions
 
@@ -138,28 +128,12 @@ module _ (place : ℕ → ℕ) where
           told = b.told;
         }
 
-append_one : (xs : List JournalItem) (y : JournalItem) (ys : List JournalItem) → xs ++ y ∷ ys ≡ (xs ++ y ∷ []) ++ ys
-append_one [] y ys = refl
-append_one (x ∷ xs) y ys = ap (λ (zs : List JournalItem). x ∷ zs) (append_one xs y ys)
-
-no_more : (xs : List JournalItem) → xs ++ [] ≡ xs
-no_more [] = refl
-no_more (x ∷ xs) = ap (λ (zs : List JournalItem). x ∷ zs) (no_more xs)
-
-place_of_item : (id : ℕ) (item : JournalItem) (rest : List JournalItem) → place_in (item ∷ []) id ≡ 0 → tx_count (item ∷ []) ≡ 1 → place_in (item ∷ rest) id ≡ 0
-place_of_item id (Tx other session time opened lines) rest e one = here (other == id) e
-  where
-    here : (b : Bool) → (let n : ℕ = if b then 0 else suc 0 in n ≡ 0) → (let n : ℕ = if b then 0 else suc (place_in rest id) in n ≡ 0)
-    here true h = refl
-    here false h = absurd (omega (arith, h))
-place_of_item id (Close k) rest e one = absurd (omega (arith, one))
-
 module _ (reads : Reading) (all : List JournalItem) where
   after_all : (before : List JournalItem) (T : Tables) (items : List JournalItem) → all ≡ before ++ items → IsLegalFrom reads before T items → Between (place_in all) reads before T → Between (place_in all) reads all (serial_from reads T items)
   unfolding serial_from
-  after_all before T [] e legal b = subst (λ (xs : List JournalItem). Between (place_in all) reads xs T) (sym (e ∙ no_more before)) b
+  after_all before T [] e legal b = subst (λ (xs : List JournalItem). Between (place_in all) reads xs T) (sym (e ∙ append-nil before)) b
   after_all before T (i ∷ is) e legal b =
-      after_all (before ++ i ∷ []) (after_item reads T i) is (e ∙ append_one before i is) legal.1
+      after_all (before ++ i ∷ []) (after_item reads T i) is (e ∙ sym (append_assoc before (i ∷ []) is)) legal.1
       (after_one (place_in all) reads before T i
       (λ id here one others. ap (λ (xs : List JournalItem). place_in xs id) e ∙ own_place id before i is others (place_of_item id i is here one)) legal.0 b)
 

@@ -1,60 +1,35 @@
 -- What a change leaves of what rows tell of the columns of users' tables, and what another definition does.
-use Rattle.std.proofs.Common.{◌≡◌, ◌≤◌, ◌<◌, ℕ, ◌+◌, ◌*◌, refl, sym, ap, subst, ◌∙◌, ⊎_elim, Bool, true, false, List, [], ◌∷◌, ◌++◌, map, length, Ok, Err, inl, inr, Option, arith}
-use Rattle.std.proofs.lemmas.Bool.{eqb-true, eq-eqb, leb-false}
-use Rattle.std.specs.Prelude.{pos, ◌==◌, if◌then◌else◌, slice_get}
+use Rattle.std.proofs.Common.{◌≡◌, ◌≤◌, ◌<◌, ℕ, ◌+◌, refl, sym, ap, subst, ◌∙◌, ⊎_elim, Bool, true, false, List, [], ◌∷◌, ◌++◌, map, length, inl, inr, Option, arith}
+use Rattle.std.proofs.lemmas.Bool.{eqb-true, eq-eqb}
+use Rattle.std.specs.Prelude.{◌==◌, if◌then◌else◌}
 use Rattle.std.specs.List.{AllByRecursion}
 use Rattle.sql_value.specs.declared.column.ColumnDef.{ColumnDef}
-use Rattle.sql_types.specs.declared.statement.Alter.{Alter}
-use Rattle.sql_types.specs.declared.statement.Alter.TheVariants.{Add, DropColumn}
-use Rattle.sql_types.specs.declared.statement.CreateIndex.{CreateIndex}
-use Rattle.sql_types.specs.declared.statement.CreateTable.{CreateTable}
-use Rattle.sql_types.specs.declared.statement.RowStmt.{RowStmt}
-use Rattle.sql_types.specs.declared.statement.Select.{Select}
-use Rattle.sql_types.specs.declared.statement.Stmt.{Stmt}
-use Rattle.sql_types.specs.declared.statement.Stmt.TheVariants as s
-use Rattle.sql_types.specs.declared.table.IndexDef.{IndexDef}
 use Rattle.sql_types.specs.declared.table.TableDef.{TableDef}
 use Rattle.sql_types.specs.declared.version.Table.{Table}
 use Rattle.sql_types.specs.declared.version.TypedValue.{TypedValue}
 use Rattle.sql_types.specs.declared.version.Version.{Version}
-use Rattle.spec_model.specs.Refusals.{Checked}
-use Rattle.spec_model.specs.Lists.{numbered, inserted}
-use Rattle.spec_model.specs.Rows.{Row, EventId, number, same_event, start_cmp, started, stored_row, values_of, value_or_null, with_end, ended}
-use Rattle.spec_model.specs.Keys.{Key, value_at, version_key}
-use Rattle.spec_model.specs.Changes.{Change, Changes, Starts, Ends, changed, changed_all, row_changes}
-use Rattle.spec_model.specs.Catalog.{Defs, NamedPart, Tables, defs_of, versions_of, with_versions, changed_table}
-use Rattle.spec_model.specs.Checks.{row_statement_check}
-use Rattle.spec_model.specs.Query.{query_check}
-use Rattle.spec_model.specs.SystemTables.{tables_id, columns_id, columns_columns, column_row, column_rows, index_row, index_rows, changed_column_row}
-use Rattle.spec_model.specs.Create.{create_check, index_check, with_index}
-use Rattle.spec_model.specs.Alter.{column_to_add, with_added, dropped_column, with_dropped, dropped_table, WithColumn, added_to, dropped_from, alter_check, drop_check, next_change, Altered, altered_table, gone_table, alteration, table_drop}
-use Rattle.spec_model.specs.Effect.{Effect, effect, query_rows, table_start, column_starts, index_starts, with_def, redefined}
-use Rattle.spec_model.specs.ChangeSets.{TableChange, in_table, changed_in, changed_from, ChangeSet, row_change_set, row_stmt_change_set, select_change_set, query_change_set, create_table_change_set, create_index_change_set, altered_change_set, change_set, carried_out}
+use Rattle.spec_model.specs.Lists.{inserted}
+use Rattle.spec_model.specs.Rows.{EventId, same_event, start_cmp, started, value_or_null, with_end, ended}
+use Rattle.spec_model.specs.Changes.{Change, Starts, Ends, changed}
+use Rattle.spec_model.specs.Catalog.{Defs, Tables, defs_of, versions_of, with_versions, changed_table}
+use Rattle.spec_model.specs.SystemTables.{columns_id, columns_columns}
+use Rattle.spec_model.specs.Effect.{with_def, redefined}
+use Rattle.spec_model.specs.ChangeSets.{TableChange, changed_in, changed_from}
 use Rattle.spec_model.specs.Agreement.{IdsFrom}
 use Rattle.law_frame.proofs.Alls.{all_weaker, all_both, all_append, all_map, all_inserted}
-use Rattle.law_frame.proofs.Alterations.{Stands, Added, added, ColumnDropped, column_dropped, TableDropped, table_dropped}
 use Rattle.law_frame.proofs.AtTable.{changed_at, new_table, redefined_table}
-use Rattle.law_frame.proofs.BaseTables.{users_table, found_is_users}
-use Rattle.law_frame.proofs.Definitions.{same_defs, changes_keep_defs}
-use Rattle.law_frame.proofs.ChangeSets.{carries_change_set_out, in_one_table, in_turn}
-use Rattle.law_journal.specs.Fits.{Fits, FitsSoFar}
+use Rattle.law_frame.proofs.Definitions.{same_defs}
+use Rattle.law_journal.specs.Fits.{FitsSoFar}
 use Rattle.law_journal.specs.Fine.{IsFine, OfTable, IsFineIn, AllFine}
-use Rattle.law_journal.specs.Kept.{IsEarlier, IsPast, KeptTable, Kept}
-use Rattle.law_journal.specs.Described.{items_below, IsColumnKey, Described}
-use Rattle.law_journal.proofs.Altered.{by_alter, by_drop, of_out}
-use Rattle.law_journal.proofs.Created.{Created, created, Indexed, indexed}
-use Rattle.law_journal.proofs.DefLists.{all_defs, no_items, IsOnly, ListedOnce, is_listed_once}
-use Rattle.law_journal.proofs.Entering.{with_its_versions}
-use Rattle.law_journal.proofs.Lift.{of_weaker, found_table}
-use Rattle.law_journal.proofs.NumberKeys.{column_version_key}
+use Rattle.law_journal.specs.Kept.{IsPast, KeptTable, Kept}
+use Rattle.law_journal.specs.Described.{Described}
+use Rattle.law_journal.proofs.DefLists.{all_defs, IsOnly}
+use Rattle.law_journal.proofs.Lift.{of_weaker}
 use Rattle.law_journal.proofs.Order.{new_version}
-use Rattle.law_journal.proofs.Statements.{has_indexed_table, change_set_fine}
 use Rattle.law_journal.proofs.Tables.{SplitFrom, split_from, kept_changed}
 use Rattle.law_catalog_time.specs.AsOfStart.{IsAboutColumn}
-use Rattle.law_catalog_time.proofs.ToldColumns.{IsAbout, AreTold, NoneBehind, Took, ToldTable, started_taken, still_told_table}
-use Rattle.law_catalog_time.proofs.EnteredRows.{entry, column_about, part_about, changed_about, added_told, dropped_told}
-use Rattle.law_catalog_time.proofs.CreatedColumns.{created_told}
-use Rattle.law_catalog_time.proofs.Statements.{past_at, AllBelow, ids_below}
+use Rattle.law_catalog_time.proofs.ToldColumns.{AreTold, NoneBehind, Took, ToldTable, started_taken, still_told_table}
+use Rattle.law_catalog_time.proofs.Statements.{past_at}
 
 -- ---- one change
 

@@ -1,5 +1,5 @@
 -- What the rows of the table of columns tell of the columns of a table, and what one more row leaves of that.
-use Rattle.std.proofs.Common.{◌≡◌, ◌≢◌, ◌≤◌, ◌<◌, ◌⊎◌, ℕ, zero, suc, ◌+◌, inl, inr, refl, sym, ap, subst, ◌∙◌, Bool, true, false, List, [], ◌∷◌, ◌++◌, length, Option, Some, None, arith}
+use Rattle.std.proofs.Common.{◌≡◌, ◌≤◌, ◌<◌, ℕ, suc, ◌+◌, inl, inr, refl, sym, subst, Bool, true, false, List, [], ◌∷◌, length, Option, Some, None, arith}
 use Rattle.std.proofs.lemmas.Option.{slice_get_within}
 use Rattle.std.specs.Prelude.{if◌then◌else◌, slice_get}
 use Rattle.std.specs.List.{AllByRecursion}
@@ -13,7 +13,7 @@ use Rattle.spec_model.specs.Rows.{EventId, start_cmp, values_of, filled_stored}
 use Rattle.spec_history.specs.Lists.{Some_of}
 use Rattle.law_frame.proofs.Alls.{all_weaker, all_both, all_inserted}
 use Rattle.law_frame.proofs.Filled.{filled_stored_whole}
-use Rattle.law_journal.specs.Fits.{FitsColumn, Fits, FitsSoFar}
+use Rattle.law_journal.specs.Fits.{FitsColumn, Fits}
 use Rattle.law_journal.specs.Kept.{IsEarlier, IsPast}
 use Rattle.law_journal.proofs.SoFar.{as_many}
 use Rattle.law_catalog_time.specs.AsOfStart.{IsAboutColumn, SaysNotNull, IsRowBefore, IsLastBefore, Takes, TakeFrom}

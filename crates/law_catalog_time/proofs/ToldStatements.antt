@@ -1,5 +1,5 @@
 -- Each statement keeps what rows tell of the columns of users' tables.
-use Rattle.std.proofs.Common.{◌≡◌, ◌≤◌, ◌<◌, ℕ, suc, ◌+◌, ◌*◌, inl, inr, refl, sym, ap, subst, ◌∙◌, Bool, true, false, List, [], ◌∷◌, ◌++◌, map, length, Option, Ok, Err, arith}
+use Rattle.std.proofs.Common.{◌≡◌, ◌≤◌, ◌<◌, ℕ, suc, ◌+◌, inl, inr, refl, sym, ap, subst, ◌∙◌, List, [], ◌∷◌, map, length, Ok, Err, arith}
 use Rattle.std.proofs.lemmas.Bool.{leb-false}
 use Rattle.std.specs.Prelude.{pos, slice_get}
 use Rattle.std.specs.List.{AllByRecursion}
@@ -14,24 +14,21 @@ use Rattle.sql_types.specs.declared.statement.Select.{Select}
 use Rattle.sql_types.specs.declared.statement.Stmt.{Stmt}
 use Rattle.sql_types.specs.declared.statement.Stmt.TheVariants as s
 use Rattle.sql_types.specs.declared.table.IndexDef.{IndexDef}
-use Rattle.sql_types.specs.declared.table.Part.TheVariants.{Base}
 use Rattle.sql_types.specs.declared.table.TableDef.{TableDef}
-use Rattle.sql_types.specs.declared.version.Table.{Table}
-use Rattle.sql_types.specs.declared.version.TypedValue.{TypedValue}
 use Rattle.sql_types.specs.declared.version.Version.{Version}
 use Rattle.spec_model.specs.Refusals.{Checked}
 use Rattle.spec_model.specs.Limits.{max_columns}
 use Rattle.spec_model.specs.Lists.{numbered, inserted}
-use Rattle.spec_model.specs.Rows.{Row, EventId, number, start_cmp, stored_row, values_of}
+use Rattle.spec_model.specs.Rows.{Row, number, start_cmp, stored_row, values_of}
 use Rattle.spec_model.specs.Keys.{Key, value_at, version_key}
-use Rattle.spec_model.specs.Changes.{Change, Changes, Starts, changed, changed_all, row_changes}
+use Rattle.spec_model.specs.Changes.{Change, Changes, Starts, changed_all, row_changes}
 use Rattle.spec_model.specs.Catalog.{Defs, NamedPart, Tables, defs_of, versions_of, changed_table}
 use Rattle.spec_model.specs.Checks.{row_statement_check}
 use Rattle.spec_model.specs.Query.{query_check}
 use Rattle.spec_model.specs.SystemTables.{tables_id, columns_id, columns_columns, column_row, column_rows, index_row, index_rows}
 use Rattle.spec_model.specs.Create.{create_check, index_check, with_index}
-use Rattle.spec_model.specs.Alter.{column_to_add, with_added, dropped_column, with_dropped, dropped_table, WithColumn, added_to, dropped_from, alter_check, drop_check, next_change, Altered, altered_table, gone_table, alteration, table_drop}
-use Rattle.spec_model.specs.Effect.{Effect, effect, query_rows, table_start, column_starts, index_starts, with_def, redefined}
+use Rattle.spec_model.specs.Alter.{column_to_add, with_added, dropped_column, with_dropped, dropped_table, WithColumn, alter_check, next_change, Altered, gone_table, alteration, table_drop}
+use Rattle.spec_model.specs.Effect.{Effect, effect, query_rows, table_start, column_starts, with_def, redefined}
 use Rattle.spec_model.specs.ChangeSets.{TableChange, in_table, changed_in, changed_from, ChangeSet, row_change_set, row_stmt_change_set, select_change_set, query_change_set, create_table_change_set, create_index_change_set, altered_change_set, change_set, carried_out}
 use Rattle.spec_model.specs.Agreement.{IdsFrom}
 use Rattle.law_frame.proofs.Alls.{all_weaker, all_append}
@@ -40,19 +37,18 @@ use Rattle.law_frame.proofs.AtTable.{changed_at}
 use Rattle.law_frame.proofs.BaseTables.{users_table}
 use Rattle.law_frame.proofs.Definitions.{changes_keep_defs}
 use Rattle.law_frame.proofs.ChangeSets.{carries_change_set_out, in_one_table, in_turn}
-use Rattle.law_journal.specs.Fits.{FitsSoFar}
 use Rattle.law_journal.specs.Fine.{OfTable, AllFine}
 use Rattle.law_journal.specs.Kept.{IsPast, Kept}
 use Rattle.law_journal.specs.Described.{items_below, IsColumnKey, Described}
 use Rattle.law_journal.proofs.Altered.{by_alter, by_drop, of_out}
 use Rattle.law_journal.proofs.Created.{Created, created, Indexed, indexed}
-use Rattle.law_journal.proofs.DefLists.{all_defs, no_items, IsOnly, ListedOnce, is_listed_once}
+use Rattle.law_journal.proofs.DefLists.{all_defs, no_items, IsOnly, is_listed_once}
 use Rattle.law_journal.proofs.Entering.{with_its_versions}
 use Rattle.law_journal.proofs.Lift.{of_weaker, of_other, found_table}
 use Rattle.law_journal.proofs.NumberKeys.{column_version_key}
 use Rattle.law_journal.proofs.Order.{new_version}
 use Rattle.law_journal.proofs.Statements.{ColumnsAbout, has_indexed_table, change_set_fine}
-use Rattle.law_catalog_time.specs.AsOfStart.{IsNumber, IsAboutColumn}
+use Rattle.law_catalog_time.specs.AsOfStart.{IsNumber}
 use Rattle.law_catalog_time.proofs.ToldColumns.{IsAbout, ToldTable}
 use Rattle.law_catalog_time.proofs.EnteredRows.{entry, column_about, part_about, changed_about, added_told, dropped_told}
 use Rattle.law_catalog_time.proofs.CreatedColumns.{created_told}

@@ -1,4 +1,5 @@
--- Versions respect the columns of their tables as these were when the versions started, by the rows of the table of columns.
+-- Versions respect the columns of their tables as these were when the versions started, by the rows of the table
+-- of columns.
 use Rattle.std.specs.Prelude.{ℕ, pos, ◌+◌, ◌≡◌, ◌<◌, List, [], ◌∷◌, Option, Some, None}
 use Rattle.std.specs.List.{AllByRecursion}
 use Rattle.sql_value.specs.declared.value.Value.{Value}

@@ -8,9 +8,9 @@ ghost use Rattle.law_journal.specs.Serial.{place_in};
 ghost use Rattle.law_catalog_time.specs.AfterColumns.{VersionsFollowColumns};
 ghost use Rattle.law_catalog_time.specs.AsOfStart.{VersionsRespectColumns};
 
-/// In the tables to which a legal journal leads, each version of a user's table starts after the rows of the
-/// table of columns that are about its columns, by the places of their transactions in the journal and then by
-/// number. This holds for any reading of texts.
+/// In the tables to which a legal journal leads, each version of a user's table starts after the rows that
+/// CREATE TABLE entered in the table of columns for it, by the places of their transactions in the journal and
+/// then by number. This holds for any reading of texts.
 pub fn legal_versions_start_after_their_columns()
     ensures { (reads : Reading) (items : List JournalItem) → IsLegal reads items
         → VersionsFollowColumns (place_in items) (serial reads items) }

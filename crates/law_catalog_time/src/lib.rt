@@ -1,4 +1,4 @@
-//! When rows of the catalog start: before the versions of the tables that they describe.
+//! When rows of the catalog start, and which values the versions of tables may have by them.
 #![tactic(auto)]
 
 mod laws;

@@ -11,11 +11,12 @@ ghost use Rattle.server_result.specs.declared.ran.RunOutcome.{RunOutcome as Outp
 ghost use Rattle.cli_words.specs.Commands.{Settings};
 ghost use Rattle.cli_commands.specs.Answer.{RanAndSaved};
 ghost use Rattle.cli_commands.specs.Input.{line_form, section_form};
-ghost use Rattle.cli_commands.specs.Names.{image_limit};
-ghost use Rattle.cli_commands.specs.Replay.{PutsAccepted, SavesReplay};
-ghost use Rattle.cli_commands.specs.Run.{LinesComeTo, SectionsComeTo, image_name, journal_name};
-ghost use Rattle.cli_commands.specs.declared.status.Status.{Status};
-ghost use Rattle.cli_commands.specs.declared.status.Status.TheVariants.{Done};
+ghost use Rattle.cli_audit.specs.Names.{image_limit};
+ghost use Rattle.cli_audit.specs.Replay.{PutsAccepted, SavesReplay};
+ghost use Rattle.cli_audit.specs.Files.{image_name, journal_name};
+ghost use Rattle.cli_commands.specs.Run.{LinesComeTo, SectionsComeTo};
+ghost use Rattle.cli_audit.specs.declared.status.Status.{Status};
+ghost use Rattle.cli_audit.specs.declared.status.Status.TheVariants.{Done};
 ghost use Rattle.law_commands.specs.Calls.{EndsVerify, EndsExtract, SaysYes, SaysSameOrCollision, faults_in};
 ghost use Rattle.law_commands.specs.Exhibits.{AreExhibits, HoldsDigests, HoldsImage, IsExhibit};
 

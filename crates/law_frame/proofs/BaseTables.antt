@@ -28,7 +28,7 @@ found_is_users (d ∷ defs) name found e =
     named_part d (own_part d) (is_named d.name name) (is_named d.history name) (is_named d.view name) (find_part defs name) found IsUsers e
     (λ h. own_is_users d (nat_le d.id 2) refl h) (λ h. cc) (λ h. cc) (λ h. found_is_users defs name found h)
 
-base_alone : (def : TableDef) (p : Part) → not (is_standing def p) ≡ false → p ≡ Base
+pub base_alone : (def : TableDef) (p : Part) → not (is_standing def p) ≡ false → p ≡ Base
 base_alone def Base e = refl
 base_alone def History e = cc
 base_alone def View e = cc

@@ -71,7 +71,7 @@ each_alone (u ∷ us) r = (
     together [] l a = tt
     together (v ∷ vs) l a = (((λ h. absurd (rises_apart_too u v l.0 h)), a.0), together vs l.1 a.1)
 
-own_reverse : (o : Ordering) → o ≡ ordering_reverse o → is_eq o ≡ true
+pub own_reverse : (o : Ordering) → o ≡ ordering_reverse o → is_eq o ≡ true
 own_reverse Less e = cc
 own_reverse Equal e = refl
 own_reverse Greater e = cc

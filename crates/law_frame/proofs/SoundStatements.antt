@@ -38,7 +38,7 @@ use Rattle.law_frame.proofs.Sounds.{sound_all}
 
 -- ---- CREATE TABLE
 
-four_passed : {A : Type 0} (a b c d : Bool) (e f g h : Refusal) (y x : A) → refused_if a e (refused_if b f (refused_if c g (refused_if d h (Ok y)))) ≡ Ok x → x ≡ y
+pub four_passed : {A : Type 0} (a b c d : Bool) (e f g h : Refusal) (y x : A) → refused_if a e (refused_if b f (refused_if c g (refused_if d h (Ok y)))) ≡ Ok x → x ≡ y
 four_passed true b c d e f g h y x k = cc
 four_passed false true c d e f g h y x k = cc
 four_passed false false true d e f g h y x k = cc

@@ -119,7 +119,7 @@ module _ (tx n : ℕ) where
     pub statement_undone : n ≤ seq → (stmt : Stmt) → creates stmt ≡ false → undone tx n (effect T tx seq stmt).tables ≡ undone tx n T
     statement_undone le stmt e = ap (undone tx n) (tables_after T tx seq stmt e) ∙ all_undone seq le (change_set T stmt).changes T (change_set_undoes stmt e)
 
-first_few : {A : Type 0} (P : A → Type 0) (k : ℕ) (xs : List A) → AllByRecursion P xs → AllByRecursion P (take k xs)
+pub first_few : {A : Type 0} (P : A → Type 0) (k : ℕ) (xs : List A) → AllByRecursion P xs → AllByRecursion P (take k xs)
 first_few P zero xs h = tt
 first_few P (suc k) [] h = tt
 first_few P (suc k) (x ∷ xs) h = (h.0, first_few P k xs h.1)

@@ -1,9 +1,7 @@
 -- Each image that is saved is that of its part of the journal, and what is accepted with its digests is bound to it.
 use Rattle.std.proofs.Common.{◌≡◌, ◌<◌, ℕ, List, [], ◌∷◌, ◌++◌, length, map, refl, sym, ap, subst, ◌∙◌, ⊎_elim, arith}
-use Rattle.std.proofs.lemmas.Bool.{eq-eqb}
 use Rattle.std.proofs.lemmas.List.{take_all}
 use Rattle.sql_types.specs.declared.digest.Digest.{Digest}
-use Rattle.sql_types.specs.declared.journal.TheConstants.{JOURNAL_VERSION}
 use Rattle.sql_types.specs.declared.journal.Journal.{Journal}
 use Rattle.sql_types.specs.declared.journal.JournalItem.{JournalItem}
 use Rattle.spec_model.specs.Journals.{cut}
@@ -39,7 +37,7 @@ in_some P (xs ∷ lists) x all some = ⊎_elim (λ i. each_in P xs x all.0 i) (�
 -- a journal that is legal is so in the version of a running server
 pub in_this_version : (J : Journal) → IsLegalJournal statement_of J → IsLegalJournal statement_of (journal_of J.database J.items)
 in_this_version J legal = record {
-  version = eq-eqb JOURNAL_VERSION JOURNAL_VERSION refl;
+  version = refl;
   database = legal.database;
   items = legal.items;
   legal = legal.legal;

@@ -1,9 +1,9 @@
 -- A definition that rows may spell has a spelling in bytes.
-use Rattle.std.proofs.Common.{◌≡◌, ◌<◌, ◌≤◌, ◌+◌, ◌^◌, ◌∙◌, ℕ, refl, sym, ap, Bool, true, false, List, [], ◌∷◌, length, map, arith}
+use Rattle.std.proofs.Common.{◌≡◌, ◌<◌, ◌≤◌, ◌+◌, ◌^◌, ℕ, refl, Bool, true, false, List, [], ◌∷◌, length, map, arith}
 use Rattle.std.proofs.lemmas.Bool.{lt-ltb}
 use Rattle.std.proofs.lemmas.Bool.Decides.{nat_tests, Decides-eqb}
 use Rattle.std.specs.Bool.{Decides}
-use Rattle.std.specs.Prelude.{◌&&◌, ◌||◌, ◌==◌, not, nat_lt, nat_le, if◌then◌else◌}
+use Rattle.std.specs.Prelude.{◌&&◌, ◌||◌, ◌==◌, not, nat_le, if◌then◌else◌}
 use Rattle.std.specs.List.{AllByRecursion, list_all, range_with_len}
 use Rattle.sql_value.specs.Stored.{is_in_range}
 use Rattle.sql_value.specs.declared.column.ColumnDef.{ColumnDef}
@@ -12,10 +12,9 @@ use Rattle.sql_types.specs.declared.table.TableDef.{TableDef}
 use Rattle.spec_model.specs.Agreement.{IdsFrom}
 use Rattle.spec_model.specs.Catalog.{Defs}
 use Rattle.spec_model.specs.Create.{names_of, table_names, is_ledger_name, has_null_key}
-use Rattle.spec_model.specs.Lists.{numbered, repeats}
-use Rattle.law_catalog_rows.specs.IsEncodableDef as law
-use Rattle.law_catalog_rows.specs.IsEncodableDef.{is_proper_name, has_its_history, dropped_are_right, is_between, greatest, is_among, number_repeats, are_key_positions, positions_of, is_encodable_column, is_encodable_index, is_encodable_def}
-use Rattle.format_image.specs.DefBytes.{IsColumn, IsIndex, rise_within, IsDef, ids_rise}
+use Rattle.spec_model.specs.Lists.{numbered, repeats, rise_within, is_among}
+use Rattle.law_catalog_rows.specs.IsEncodableDef.{is_proper_name, has_its_history, dropped_are_right, is_between, greatest, number_repeats, are_key_positions, positions_of, is_encodable_column, is_encodable_index, is_encodable_def}
+use Rattle.format_image.specs.DefBytes.{IsColumn, IsIndex, IsDef, ids_rise}
 
 -- ---- tests
 
@@ -154,14 +153,9 @@ few_keys ps e =
     upper 1 4 (greatest ps) (front within all (front (within && all) (not (number_repeats ps)) e))
 
 -- the ordinals of dropped columns rise, as the bytes want it
-same_rise : (least limit : ℕ) (ns : List ℕ) → law.rise_within least limit ns ≡ rise_within least limit ns
-same_rise least limit [] = refl
-same_rise least limit (n ∷ ns) = ap (λ (b : Bool). nat_lt least n && nat_le n limit && b) (same_rise n limit ns)
-
 they_rise_within : (def : TableDef) → dropped_are_right def ≡ true → rise_within 0 (length def.columns) def.dropped ≡ true
 they_rise_within def e =
-    sym (same_rise 0 (length def.columns) def.dropped)
-    ∙ front (law.rise_within 0 (length def.columns) def.dropped) (list_all (λ c. not (is_among def.dropped c.0) || c.1.key_position == 0) (numbered 1 def.columns)) e
+    front (rise_within 0 (length def.columns) def.dropped) (list_all (λ c. not (is_among def.dropped c.0) || c.1.key_position == 0) (numbered 1 def.columns)) e
 
 pub def_is : (def : TableDef) → is_encodable_def def ≡ true → IsDef def
 def_is def e =

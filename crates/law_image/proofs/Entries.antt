@@ -18,6 +18,7 @@ use Rattle.spec_model.specs.Journals.{IsNext, IsLegalFrom, IsLegal, after_item, 
 use Rattle.spec_model.specs.Script.{Reading}
 use Rattle.spec_model.specs.SystemTables.{first_tables}
 use Rattle.law_frame.proofs.Alls.{all_append}
+use Rattle.law_frame.proofs.UndoneTables.{first_few as all_take}
 use Rattle.law_journal.proofs.Serials.{legal_described}
 use Rattle.spec_ledger.specs.Blocks.{block_of, record_hash}
 use Rattle.spec_ledger.specs.Entries.{has_events, root_in, roots_of, entry_of, at_place, placed}
@@ -28,11 +29,6 @@ use Rattle.law_blocks.proofs.Roots.{legal_ids, roots_rise}
 use Rattle.format_image.specs.ImageBytes.{IsPlaceless}
 
 -- ---- parts of lists
-
-all_take : {A : Type 0} (P : A → Type 0) (k : ℕ) (xs : List A) → AllByRecursion P xs → AllByRecursion P (take k xs)
-all_take P zero xs h = tt
-all_take P (suc k) [] h = tt
-all_take P (suc k) (x ∷ xs) h = (h.0, all_take P k xs h.1)
 
 all_drop : {A : Type 0} (P : A → Type 0) (k : ℕ) (xs : List A) → AllByRecursion P xs → AllByRecursion P (drop k xs)
 all_drop P zero xs h = h

@@ -7,7 +7,6 @@ use Rattle.std.specs.Prelude.{◌||◌, not, nat_lt, nat_le, if◌then◌else◌
 use Rattle.std.specs.List.{AllByRecursion, list_any, filter}
 use Rattle.std.specs.Str.{bytes_eq}
 use Rattle.sql_value.specs.declared.column.ColumnDef.{ColumnDef}
-use Rattle.sql_value.specs.declared.refusal.Refusal.{Refusal}
 use Rattle.sql_value.specs.declared.refusal.Refusal.TheVariants.{NoSuchTable, NameConflict, NoSuchColumn, NullNotAllowed, ReadOnlyTable, LimitExceeded}
 use Rattle.sql_value.specs.Stored.{is_in_range}
 use Rattle.sql_types.specs.declared.table.TableDef.{TableDef}
@@ -18,24 +17,17 @@ use Rattle.spec_model.specs.Refusals.{or_refused}
 use Rattle.spec_model.specs.Columns.{place_of}
 use Rattle.spec_model.specs.Limits.{max_columns, max_key_columns, max_tables, max_index_columns, max_indexes}
 use Rattle.spec_model.specs.Catalog.{Defs, NamedPart, find_part}
-use Rattle.spec_model.specs.Checks.{refused_if}
 use Rattle.spec_model.specs.Create.{is_name, table_names, is_long, ordinal_at, keyed, table_def, has_bad_name, system_tables, exceeds_limit, has_null_key, next_id, create_check, index_def, ordinals_of, index_check_in, index_check}
 use Rattle.law_frame.proofs.Checked.{Led, led, was_passed, not_refused}
 use Rattle.law_frame.proofs.Alls.{all_weaker, all_both}
 use Rattle.law_frame.proofs.NamedPart.{was_found}
 use Rattle.law_frame.proofs.SameKeys.{or_false}
+use Rattle.law_frame.proofs.SoundStatements.{four_passed}
 use Rattle.law_journal.proofs.SystemRows.{IsSmall}
 
 none_any : {A : Type 0} (test : A → Bool) (xs : List A) → list_any test xs ≡ false → AllByRecursion (λ x. test x ≡ false) xs
 none_any test [] e = tt
 none_any test (x ∷ xs) e = let p = or_false (test x) (list_any test xs) e in (p.0, none_any test xs p.1)
-
-four_passed : {A : Type 0} (a b c d : Bool) (e f g h : Refusal) (y x : A) → refused_if a e (refused_if b f (refused_if c g (refused_if d h (Ok y)))) ≡ Ok x → x ≡ y
-four_passed true b c d e f g h y x k = cc
-four_passed false true c d e f g h y x k = cc
-four_passed false false true d e f g h y x k = cc
-four_passed false false false true e f g h y x k = cc
-four_passed false false false false e f g h y x k = cc
 
 pub record Six (a b c d e f : Bool) : Type 0 where
   pub first : a ≡ false

@@ -1,5 +1,5 @@
 -- The tables to which a legal journal leads.
-use Rattle.std.proofs.Common.{◌≡◌, ◌<◌, ℕ, zero, suc, ◌+◌, ◌⊎◌, inl, inr, refl, sym, ap, subst, ◌∙◌, Bool, true, false, List, [], ◌∷◌, ◌++◌, map, take, Option, Some, None, arith}
+use Rattle.std.proofs.Common.{◌≡◌, ◌<◌, ℕ, zero, suc, ◌+◌, ◌⊎◌, inl, inr, refl, sym, ap, subst, ◌∙◌, Bool, true, false, List, [], ◌∷◌, ◌++◌, map, take, Option, Some, None, arith, append_assoc, append-nil}
 use Rattle.std.proofs.lemmas.Bool.{eqb-true, eq-eqb, ne_eqb}
 use Rattle.std.proofs.lemmas.List.Sums.{sum_by-cons}
 use Rattle.std.specs.Prelude.{◌==◌, if◌then◌else◌, IfSome}
@@ -61,12 +61,12 @@ no_number id T h n = none_in_all id n T h.each ∙ none_below n
 
 -- ---- places
 
-own_place : (id : ℕ) (before : List JournalItem) (item : JournalItem) (rest : List JournalItem) → AllByRecursion (IsOther id) before → place_in (item ∷ rest) id ≡ 0 → place_in (before ++ item ∷ rest) id ≡ tx_count before
+pub own_place : (id : ℕ) (before : List JournalItem) (item : JournalItem) (rest : List JournalItem) → AllByRecursion (IsOther id) before → place_in (item ∷ rest) id ≡ 0 → place_in (before ++ item ∷ rest) id ≡ tx_count before
 own_place id [] item rest h e = e
 own_place id (Tx other session time explicit lines ∷ is) item rest h e = rw (ne_eqb other id h.0) (ap suc (own_place id is item rest h.1 e))
 own_place id (Close k ∷ is) item rest h e = own_place id is item rest h.1 e
 
-one_tx : (before : List JournalItem) (item : JournalItem) → tx_count (before ++ item ∷ []) ≡ tx_count before + tx_count (item ∷ [])
+pub one_tx : (before : List JournalItem) (item : JournalItem) → tx_count (before ++ item ∷ []) ≡ tx_count before + tx_count (item ∷ [])
 one_tx [] item = omega arith
 one_tx (Tx other session time explicit lines ∷ is) item = omega (arith, one_tx is item)
 one_tx (Close k ∷ is) item = one_tx is item
@@ -161,15 +161,7 @@ module _ (place : ℕ → ℕ) where
           keeps_rows = b.keeps_rows;
         }
 
-append_one : (xs : List JournalItem) (y : JournalItem) (ys : List JournalItem) → xs ++ y ∷ ys ≡ (xs ++ y ∷ []) ++ ys
-append_one [] y ys = refl
-append_one (x ∷ xs) y ys = ap (λ (zs : List JournalItem). x ∷ zs) (append_one xs y ys)
-
-no_more : (xs : List JournalItem) → xs ++ [] ≡ xs
-no_more [] = refl
-no_more (x ∷ xs) = ap (λ (zs : List JournalItem). x ∷ zs) (no_more xs)
-
-place_of_item : (id : ℕ) (item : JournalItem) (rest : List JournalItem) → place_in (item ∷ []) id ≡ 0 → tx_count (item ∷ []) ≡ 1 → place_in (item ∷ rest) id ≡ 0
+pub place_of_item : (id : ℕ) (item : JournalItem) (rest : List JournalItem) → place_in (item ∷ []) id ≡ 0 → tx_count (item ∷ []) ≡ 1 → place_in (item ∷ rest) id ≡ 0
 place_of_item id (Tx other session time explicit lines) rest e one = here (other == id) e
   where
     here : (b : Bool) → (let n : ℕ = if b then 0 else suc 0 in n ≡ 0) → (let n : ℕ = if b then 0 else suc (place_in rest id) in n ≡ 0)
@@ -180,9 +172,9 @@ place_of_item id (Close k) rest e one = absurd (omega (arith, one))
 module _ (reads : Reading) (all : List JournalItem) where
   after_all : (before : List JournalItem) (T : Tables) (items : List JournalItem) → all ≡ before ++ items → IsLegalFrom reads before T items → Between (place_in all) reads before T → Between (place_in all) reads all (serial_from reads T items)
   unfolding serial_from
-  after_all before T [] e legal b = subst (λ (xs : List JournalItem). Between (place_in all) reads xs T) (sym (e ∙ no_more before)) b
+  after_all before T [] e legal b = subst (λ (xs : List JournalItem). Between (place_in all) reads xs T) (sym (e ∙ append-nil before)) b
   after_all before T (i ∷ is) e legal b =
-      after_all (before ++ i ∷ []) (after_item reads T i) is (e ∙ append_one before i is) legal.1
+      after_all (before ++ i ∷ []) (after_item reads T i) is (e ∙ sym (append_assoc before (i ∷ []) is)) legal.1
       (after_one (place_in all) reads before T i
       (λ id here one others. ap (λ (xs : List JournalItem). place_in xs id) e ∙ own_place id before i is others (place_of_item id i is here one)) legal.0 b)
 

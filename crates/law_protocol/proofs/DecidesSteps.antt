@@ -254,6 +254,7 @@ module _ (v : Server) {history : History} {cells : List Cell} {seats : List Seat
     visit_decides out visit.read_system (Catalog a) (Catalog b) t e h = system_done (Catalog b) t h.at.stands _ _ h.seat h.at.unfixed h.o.explicit refl
     visit_decides out visit.create_table (Catalog a) (Catalog b) t e h = still _ _ t (tt, tt)
     visit_decides out visit.create_index (Catalog a) (Catalog b) t e h = still _ _ t (tt, tt)
+    visit_decides out visit.alter_table (Catalog a) (Catalog b) t e h = still _ _ t (tt, tt)
     visit_decides out visit.refuse_create (Catalog a) (Catalog b) t e h = still _ _ t (tt, tt)
     visit_decides out visit.stop_in_catalog (Catalog a) (Catalog b) t e h = in_catalog a (Catalog b) t e (catalog_there cells st.catalog a st.ledger st.are_cells i e) h.0 h.0.r h.0.stopped
     visit_decides out visit.change (Rows a) (Rows b) t e h = rows_done (Rows b) t h.at.at.stands _ _ h.seat h.at.at.unfixed h.o.explicit refl

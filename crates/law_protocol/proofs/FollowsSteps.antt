@@ -141,12 +141,13 @@ module _ (v : Server) {history : History} {cells : List Cell} {seats : List Seat
 
 -- ---- visits
 
-visit_plain : (v : Server) (out : List (ℕ × Cell)) (how : Visit) (a : Cell) (s : SeatState) (b : Cell) (t : SeatState) (h : Happens v out how a s b t) → Each IsPlain (visit_anonymous_acts v out how a s b t h)
+pub visit_plain : (v : Server) (out : List (ℕ × Cell)) (how : Visit) (a : Cell) (s : SeatState) (b : Cell) (t : SeatState) (h : Happens v out how a s b t) → Each IsPlain (visit_anonymous_acts v out how a s b t h)
 visit_plain v out (visit.assign_id explicit) (Ledger a) s (Ledger b) t h = (tt, tt)
 visit_plain v out visit.look (Catalog a) s (Catalog b) t h = (tt, tt)
 visit_plain v out visit.read_system (Catalog a) s (Catalog b) t h = (tt, done_plain h.o.explicit h.at.stands.text true _)
 visit_plain v out visit.create_table (Catalog a) s (Catalog b) t h = (tt, tt)
 visit_plain v out visit.create_index (Catalog a) s (Catalog b) t h = (tt, tt)
+visit_plain v out visit.alter_table (Catalog a) s (Catalog b) t h = (tt, tt)
 visit_plain v out visit.refuse_create (Catalog a) s (Catalog b) t h = (tt, tt)
 visit_plain v out visit.stop_in_catalog (Catalog a) s (Catalog b) t h = stopped_plain h.0.stopped h.0.at.stands.text _ (failed_in_plain v.meaning (Some h.0.o) h.0.at.stands.text)
 visit_plain v out visit.change (Rows a) s (Rows b) t h = done_plain h.o.explicit h.at.at.stands.text true _

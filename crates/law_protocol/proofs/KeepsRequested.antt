@@ -34,7 +34,7 @@ use Rattle.spec_protocol.specs.OpenOnes.{HasOpen}
 use Rattle.spec_protocol.specs.Seats.{OpenTransaction, SessionStatus, StatementProgress, begun, found, going_back, inside, Role, idle, session, builder, kept, split, Session, SeatState}
 use Rattle.spec_protocol.specs.Server.{Server}
 use Rattle.spec_protocol.specs.StandTogether.{History, Stands}
-use Rattle.spec_protocol.specs.Visits.{Visit, assign_id, look, read_system, create_table, create_index, refuse_create, stop_in_catalog, change, refuse_change, read, stop_in_table, add_index, undo_to, commit, read_point, release, release_catalog, give_back, close, issue, lack_block, keep, nothing, Happens}
+use Rattle.spec_protocol.specs.Visits.{Visit, assign_id, look, read_system, create_table, create_index, alter_table, refuse_create, stop_in_catalog, change, refuse_change, read, stop_in_table, add_index, undo_to, commit, read_point, release, release_catalog, give_back, close, issue, lack_block, keep, nothing, Happens}
 use Rattle.law_protocol_steps.proofs.AfterSet.{set_here, set_else, set_same}
 use Rattle.law_protocol_steps.proofs.CatalogThere.{catalog_held, catalog_there}
 use Rattle.law_protocol_steps.proofs.AssignsId.{at_own, no_lock}
@@ -324,6 +324,7 @@ module _ (v : Server) (cells : List Cell) (seats : List SeatState) {history : Hi
       (λ explicit open_end lock. inl (line_requests v h.o.explicit _ h.o.script explicit (reads_requests v h.at.stands.text h.at.stands.stmt h.at.stands.is (ap (catalog_request true) h.selects))))
   visit_requested out create_table i (Catalog a) (Catalog b) t e h = has_open (Cells i (Catalog b)) (others_had i a b e h.at.stands.x h.o (mine h.o h.at) _ (ap (λ (z : CatalogCell). z.holds) h.cell)) t _ (role_is t _ h.seat) _ refl (λ explicit open_end lock. not_opened h.o h.alone explicit)
   visit_requested out create_index i (Catalog a) (Catalog b) t e h = has_open (Cells i (Catalog b)) (others_had i a b e h.at.stands.x h.o (mine h.o h.at) _ (ap (λ (z : CatalogCell). z.holds) h.cell)) t _ (role_is t _ h.seat) _ refl (λ explicit open_end lock. not_opened h.o h.alone explicit)
+  visit_requested out alter_table i (Catalog a) (Catalog b) t e h = has_open (Cells i (Catalog b)) (others_had i a b e h.at.stands.x h.o (mine h.o h.at) _ (ap (λ (z : CatalogCell). z.holds) h.cell)) t _ (role_is t _ h.seat) _ refl (λ explicit open_end lock. not_opened h.o h.alone explicit)
   visit_requested out refuse_create i (Catalog a) (Catalog b) t e h = has_open (Cells i (Catalog b)) (others_had i a b e h.at.stands.x h.o (mine h.o h.at) _ (ap (λ (z : CatalogCell). z.holds) h.cell)) t _ (role_is t _ h.seat) _ refl (λ explicit open_end lock. not_opened h.o h.alone explicit)
   visit_requested out stop_in_catalog i (Catalog a) (Catalog b) t e h = cell_stays i (Catalog b) t (e ∙ ap (λ (z : CatalogCell). some (Catalog z)) (sym h.1))
       (goes_on c still_had t _ (role_is t _ h.0.seat) _ refl h.0.at.stands.x h.0.at.stands.role h.0.o h.0.at.open_one refl refl (λ l. l) (λ k. k) (λ q f. absurd (subst LookedFirst (place_of h.0.o h.0.at begun h.0.at_begin) f)))

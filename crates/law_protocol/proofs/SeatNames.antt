@@ -112,6 +112,7 @@ module _ (v : Server) (s : SeatState) where
   visit_names out visit.read_system (Catalog c) (Catalog d) t h = by_seat t _ h.at.stands.x _ h.at.stands.role h.seat refl refl refl
   visit_names out visit.create_table (Catalog c) (Catalog d) t h = by_seat t _ h.at.stands.x _ h.at.stands.role h.seat refl refl refl
   visit_names out visit.create_index (Catalog c) (Catalog d) t h = by_seat t _ h.at.stands.x _ h.at.stands.role h.seat refl refl refl
+  visit_names out visit.alter_table (Catalog c) (Catalog d) t h = by_seat t _ h.at.stands.x _ h.at.stands.role h.seat refl refl refl
   visit_names out visit.refuse_create (Catalog c) (Catalog d) t h = by_seat t _ h.at.stands.x _ h.at.stands.role h.seat refl refl refl
   visit_names out visit.stop_in_catalog (Catalog c) (Catalog d) t h = by_seat t _ h.0.at.stands.x _ h.0.at.stands.role h.0.seat refl refl refl
   visit_names out visit.change (Rows c) (Rows d) t h = by_seat t _ h.at.at.stands.x _ h.at.at.stands.role h.seat refl refl refl

@@ -162,6 +162,7 @@ module _ (v : Server) {history : History} {cells : List Cell} {seats : List Seat
   visit_one_at_a_time out visit.read_system (Catalog a) (Catalog b) t h d = turned t d h.at.stands.x h.at.stands.role (tt, done_plain h.o.explicit h.at.stands.text true _) _ h.seat _ refl h.at.stands.text _ refl
   visit_one_at_a_time out visit.create_table (Catalog a) (Catalog b) t h d = turned t d h.at.stands.x h.at.stands.role (tt, tt) _ h.seat _ refl h.at.stands.text _ refl
   visit_one_at_a_time out visit.create_index (Catalog a) (Catalog b) t h d = turned t d h.at.stands.x h.at.stands.role (tt, tt) _ h.seat _ refl h.at.stands.text _ refl
+  visit_one_at_a_time out visit.alter_table (Catalog a) (Catalog b) t h d = turned t d h.at.stands.x h.at.stands.role (tt, tt) _ h.seat _ refl h.at.stands.text _ refl
   visit_one_at_a_time out visit.refuse_create (Catalog a) (Catalog b) t h d = turned t d h.at.stands.x h.at.stands.role (tt, tt) _ h.seat _ refl h.at.stands.text _ refl
   visit_one_at_a_time out visit.stop_in_catalog (Catalog a) (Catalog b) t h d = turned t d h.0.at.stands.x h.0.at.stands.role (stopped_plain h.0.stopped h.0.at.stands.text (failed_in v.meaning (Some h.0.o) h.0.at.stands.text) (failed_in_plain v.meaning (Some h.0.o) h.0.at.stands.text)) _ h.0.seat _ refl h.0.at.stands.text _ refl
   visit_one_at_a_time out visit.change (Rows a) (Rows b) t h d = turned t d h.at.at.stands.x h.at.at.stands.role (done_plain h.o.explicit h.at.at.stands.text true _) _ h.seat _ refl h.at.at.stands.text _ refl

@@ -38,7 +38,7 @@ use Rattle.spec_protocol.specs.StandTogether.{History, IsOfSeat, LocksAskedFor, 
 use Rattle.spec_protocol.specs.Steps.{Step, alone, visits, splits, joins, Steps, none, more}
 use Rattle.spec_protocol.specs.TableVisits.{Found, StopsInTable, requests_here}
 use Rattle.spec_protocol.specs.UndoVisits.{index_dropped, refused_def, undone_unless}
-use Rattle.spec_protocol.specs.Visits.{Visit, assign_id, look, read_system, create_table, create_index, refuse_create, stop_in_catalog, change, refuse_change, read, stop_in_table, add_index, undo_to, commit, read_point, release, release_catalog, give_back, close, issue, lack_block, keep, nothing, Happens}
+use Rattle.spec_protocol.specs.Visits.{Visit, assign_id, look, read_system, create_table, create_index, alter_table, refuse_create, stop_in_catalog, change, refuse_change, read, stop_in_table, add_index, undo_to, commit, read_point, release, release_catalog, give_back, close, issue, lack_block, keep, nothing, Happens}
 use Rattle.spec_protocol.specs.RequestsIn.{of_catalog}
 use Rattle.law_protocol_steps.proofs.CellsOut.{out_lies}
 use Rattle.law_protocol_steps.proofs.ActedFor.{StandsBy, sessions_at, by_any, looked_then, done_for}
@@ -73,7 +73,7 @@ use Rattle.law_protocol_steps.proofs.Closes.{closes_stand}
 use Rattle.law_protocol.proofs.CommitAsked.{over_all}
 use Rattle.law_protocol_ledger.proofs.CommitCreates.{every_commit_stands, its, texts_are}
 use Rattle.law_protocol_ledger.proofs.CommitsStand.{both}
-use Rattle.law_protocol_ledger.proofs.CreateVisits.{creates_table, creates_index, refuses_create}
+use Rattle.law_protocol_ledger.proofs.CreateVisits.{alters_x, alters_table, creates_table, creates_index, refuses_create}
 use Rattle.law_protocol_ledger.proofs.DigestsStand.{issues_stand, lacks_stand}
 use Rattle.law_protocol.proofs.AssignNoId.{done_none, done_kept, failed_in_none, commit_none, end_none}
 use Rattle.law_protocol_steps.proofs.AssignsId.{assigns_id_stands}
@@ -102,10 +102,12 @@ use Rattle.law_protocol_tables.proofs.VisitsAsked.{no_more, taken_there, were_he
 not_rows : (cells : List Cell) (catalog : CatalogCell) (ledger : LedgerCell) (c : TableCell) → AreCells cells catalog ledger → (i : ℕ) → get_elem? cells i ≡ some (Rows c) → ledger_at ≡ i → ⊥
 not_rows cells catalog ledger c a i e same = let f : some (Ledger ledger) ≡ some (Rows c) = sym a.has_ledger ∙ ap (get_elem? cells) same ∙ e in cc
 
--- a refused CREATE takes X
+-- a statement that creates, alters or drops takes X where it is refused
 refused_x : (c : CatalogCell) (d : Stmt) (e : Refusal) → CreateRefused c d e → catalog_request false d ≡ Some X
 refused_x c (stmt.Create q) e h = refl
 refused_x c (stmt.Index q) e h = refl
+refused_x c (stmt.Alter a) e h = refl
+refused_x c (stmt.Drop name) e h = refl
 refused_x c d e h = absurd h
 
 select_shares : (b : Bool) (q : Select) → catalog_request b (stmt.Select q) ≡ Some S
@@ -245,6 +247,7 @@ module _ (v : Server) (cells : List Cell) (seats : List SeatState) {history : Hi
       (λ f. reads_system v cells seats st j s there c d t f h)
   visit_keeps create_table (Catalog c) (Catalog d) t e h = catalog_more _ [] c d t h.o h.at.stands.text X refl (tt, tt) tt (ap₂ requests_catalog h.alone (h.at.stands.is ∙ ap Some h.creates)) (ap (λ (z : CatalogCell). z.holds) h.cell) e (λ f. creates_table v cells seats st j s there c d t f h)
   visit_keeps create_index (Catalog c) (Catalog d) t e h = catalog_more _ [] c d t h.o h.at.stands.text X refl (tt, tt) tt (ap₂ requests_catalog h.alone (h.at.stands.is ∙ ap Some h.creates)) (ap (λ (z : CatalogCell). z.holds) h.cell) e (λ f. creates_index v cells seats st j s there c d t f h)
+  visit_keeps alter_table (Catalog c) (Catalog d) t e h = catalog_more _ [] c d t h.o h.at.stands.text X refl (tt, tt) tt (ap₂ requests_catalog h.alone h.at.stands.is ∙ alters_x c h.at.stands.stmt h.made_is h.passes) (ap (λ (z : CatalogCell). z.holds) h.cell) e (λ f. alters_table v cells seats st j s there c d t f h)
   visit_keeps refuse_create (Catalog c) (Catalog d) t e h = catalog_more _ [] c d t h.o h.at.stands.text X refl (tt, tt) tt (ap₂ requests_catalog h.alone h.at.stands.is ∙ refused_x c h.at.stands.stmt h.refusal h.is) (ap (λ (z : CatalogCell). z.holds) h.cell) e
       (λ f. refuses_create v cells seats st j s there c d t f h)
   visit_keeps stop_in_catalog (Catalog c) (Catalog d) t e h = stopped_in_catalog c d t h.1 h.0 h.0.r refl h.0.stopped e

@@ -1,4 +1,5 @@
--- A CREATE takes the catalog's X: cells and seats stand together then, before anything is created or answered.
+-- A statement that changes definitions takes the catalog's X: cells and seats stand together then, before anything is
+-- changed or answered.
 use Rattle.std.proofs.Common.{◌≡◌, ◌≢◌, ℕ, ◌≤◌, Bool, true, false, List, [], ◌∷◌, set, Option, Some, refl, sym, ap, ◌∙◌, subst, inl, inr, ⊎_elim, append-nil, ◌++◌, arith}
 use Rattle.std.proofs.lemmas.Bool.{cases_eq}
 use Rattle.std.specs.Prelude.{not}

@@ -1,4 +1,5 @@
--- A CREATE changes the catalog, or is refused there, under its X: cells and seats stand together then.
+-- A statement that changes definitions does so in the catalog, or is refused there, under its X: cells and seats stand
+-- together then.
 use Rattle.law_protocol_steps.proofs.ActedFor.{StandsBy, its_session}
 use Rattle.std.proofs.Common.{◌≡◌, ◌≢◌, ◌⊎◌, ℕ, suc, ◌+◌, ◌≤◌, Bool, true, false, List, [], ◌∷◌, ◌++◌, map, length, set, Option, Some, None, refl, sym, ap, ap₂, ◌∙◌, subst, inl, inr, ⊎_elim, append-nil, ◌-◌, arith}
 use Rattle.std.proofs.lemmas.Bool.{cases_eq, ne_eqb}
@@ -55,7 +56,7 @@ use Rattle.law_frame.proofs.Definitions.{opened_keep_defs}
 use Rattle.law_frame.proofs.UndoneVersions.{nothing_undone}
 use Rattle.law_frame.proofs.Alls.{all_weaker}
 use Rattle.law_protocol_changes.proofs.ChangedRows.{later}
-use Rattle.law_protocol_steps.proofs.CellsAfter.{each_holds, versions_here, versions_else}
+use Rattle.law_protocol_steps.proofs.CellsAfter.{each_holds, versions_here, versions_else, were_here}
 use Rattle.spec_model.specs.Replies.{reply_text}
 use Rattle.spec_protocol.specs.TreesAreOfEvents.{AreOpenSavepoints}
 use Rattle.spec_protocol.specs.Seats.{OpenTransaction, StatementProgress, begun, made, going_back, replied, found, refused, answering, SessionStatus, between, inside, leaving, Session, session, SeatState}
@@ -224,6 +225,11 @@ pub record SystemChange (tx : ℕ) (V V' W' : List Version) (seq : ℕ) : Type 0
   pub within : from + length changes ≤ seq
   pub undoes : AllByRecursion (Undoes tx 0 V) changes
 
+-- the catalog has what the journal leads to
+pub record HasTables (c : CatalogCell) (T : Tables) : Type 0 where
+  pub defs : c.defs ≡ defs_of T
+  pub rows : (id : ℕ) → 1 ≤ id → cell_of id ≡ catalog_at → versions_in id (Catalog c) ≡ versions_of T id
+
 pub record Creating (v : Server) (cells : List Cell) (seats : List SeatState) {history : History} (S : Stands v history cells seats) (j : ℕ) (s : SeatState) (x : Session) (o p : OpenTransaction) (text : Text) (stmt : Stmt) (old new : CatalogCell) (stage : StatementProgress) (r : Reply) (E : Tables) : Type 0 where
   pub there : get_elem? seats j ≡ some s
   pub role : s.role ≡ session x
@@ -239,14 +245,14 @@ pub record Creating (v : Server) (cells : List Cell) (seats : List SeatState) {h
   pub alike : IsAlike o p
   pub same_visited : p.visited ≡ o.visited
   pub same_released : p.released ≡ o.released
-  pub stage_is : old.defs ≡ defs_of (tables_now S) → IsStage v (tables_now S) text r stage
+  pub stage_is : HasTables old (tables_now S) → IsStage v (tables_now S) text r stage
   pub holds : new.holds ≡ old.holds
   pub same_savepoints : p.open_savepoints ≡ o.open_savepoints
-  pub steps : old.defs ≡ defs_of (tables_now S) → o.seq ≡ 0 → text_step v.reads false o.id (start (tables_now S)) text ≡ (record { tables = E; seq = p.seq; saved = [] }, r)
-  pub system : old.defs ≡ defs_of (tables_now S) → o.seq ≡ 0 → (id : ℕ) → 1 ≤ id → cell_of id ≡ catalog_at → versions_at cells id ≡ versions_of (tables_now S) id → SystemChange o.id (versions_at cells id) (versions_in id (Catalog new)) (versions_of E id) p.seq
+  pub steps : HasTables old (tables_now S) → o.seq ≡ 0 → text_step v.reads false o.id (start (tables_now S)) text ≡ (record { tables = E; seq = p.seq; saved = [] }, r)
+  pub system : HasTables old (tables_now S) → (id : ℕ) → 1 ≤ id → cell_of id ≡ catalog_at → SystemChange o.id (versions_at cells id) (versions_in id (Catalog new)) (versions_of E id) p.seq
   pub users : (id : ℕ) → cell_of id ≢ catalog_at → versions_of E id ≡ versions_of (tables_now S) id
-  pub left : old.defs ≡ defs_of (tables_now S) → new.defs ≡ defs_of E
-  pub creator : ((new.defs ≡ old.defs) × (new.creator ≡ old.creator)) ⊎ ((new.creator ≡ Some (record { tx = o.id; before = old.defs })) × (old.defs ≡ defs_of (tables_now S) → new.defs ≡ defs_of (defined (change_set (tables_now S) stmt).definition (tables_now S))))
+  pub left : HasTables old (tables_now S) → new.defs ≡ defs_of E
+  pub creator : ((new.defs ≡ old.defs) × (new.creator ≡ old.creator)) ⊎ ((new.creator ≡ Some (record { tx = o.id; before = old.defs })) × (HasTables old (tables_now S) → new.defs ≡ defs_of (defined (change_set (tables_now S) stmt).definition (tables_now S))))
 
 module _ (v : Server) (cells : List Cell) (seats : List SeatState) {history : History} (S : Stands v history cells seats) (j : ℕ) (s : SeatState) (x : Session) (o p : OpenTransaction) (text : Text) (stmt : Stmt) (old new : CatalogCell) (stage : StatementProgress) (r : Reply) (E : Tables) (K : Creating v cells seats S j s x o p text stmt old new stage r E) where
   abbrev T : Tables
@@ -333,27 +339,30 @@ module _ (v : Server) (cells : List Cell) (seats : List SeatState) {history : Hi
       (λ key. sym (no_count id _) ∙ S.rows_agree.own j x o has_open K.unfixed id key l (record { tx = o.id; request = whole X }) (subst (λ (n : ℕ). In (record { tx = o.id; request = whole X }) (holds_at cells n)) (sym e) exclusive) refl (reaches_all key)
       ∙ ap (λ (U : Tables). of_key (columns_at (defs_of T) id) key (versions_of U id)) end_was)
 
+  has_tables : HasTables old T
+  has_tables = record { defs = old_defs; rows = λ id l e. sym (were_here cells catalog_at (Catalog old) (Catalog new) K.out id e) ∙ were id l e }
+
   change : (id : ℕ) (l : 1 ≤ id) (e : cell_of id ≡ catalog_at) → SystemChange o.id (versions_at cells id) (versions_in id (Catalog new)) (versions_of E id) p.seq
-  change id l e = K.system old_defs no_seq id l e (were id l e)
+  change id l e = K.system has_tables id l e
 
   -- ---- the script
 
   same_script : script_so_far y p ≡ (text, reply_text r) ∷ []
-  same_script = ap (λ (ls : List Line). ls ++ lines_at (inside text stage)) (K.alike.script ∙ none_said) ∙ (K.stage_is old_defs).lines
+  same_script = ap (λ (ls : List Line). ls ++ lines_at (inside text stage)) (K.alike.script ∙ none_said) ∙ (K.stage_is has_tables).lines
 
   end_state : (script_end v T y p).state ≡ record { tables = E; seq = p.seq; saved = [] }
   end_state = ap (λ (b : Bool). (script v.reads b T p.id (texts_so_far y p)).state) (K.alike.explicit ∙ K.alone) ∙ ap (λ (n : ℕ). (script v.reads false T n (texts_so_far y p)).state) K.alike.id
-      ∙ ap (λ (ls : List Line). (script v.reads false T o.id (map (λ l. l.0) ls)).state) same_script ∙ one_text v o.id T text ∙ ap (λ (q : Step). q.0) (K.steps old_defs no_seq)
+      ∙ ap (λ (ls : List Line). (script v.reads false T o.id (map (λ l. l.0) ls)).state) same_script ∙ one_text v o.id T text ∙ ap (λ (q : Step). q.0) (K.steps has_tables no_seq)
 
   end_replies : (script_end v T y p).replies ≡ r ∷ []
   end_replies = ap (λ (b : Bool). (script v.reads b T p.id (texts_so_far y p)).replies) (K.alike.explicit ∙ K.alone) ∙ ap (λ (n : ℕ). (script v.reads false T n (texts_so_far y p)).replies) K.alike.id
-      ∙ ap (λ (ls : List Line). (script v.reads false T o.id (map (λ l. l.0) ls)).replies) same_script ∙ one_reply v o.id T text ∙ ap (λ (q : Step). q.1 ∷ []) (K.steps old_defs no_seq)
+      ∙ ap (λ (ls : List Line). (script v.reads false T o.id (map (λ l. l.0) ls)).replies) same_script ∙ one_reply v o.id T text ∙ ap (λ (q : Step). q.1 ∷ []) (K.steps has_tables no_seq)
 
   end_tables : (script_end v T y p).state.tables ≡ E
   end_tables = ap (λ (q : State). q.tables) end_state
 
   counts_then : (id : ℕ) (vs : List Version) → counted p.id id y.place vs ≡ vs
-  counts_then id vs = (K.stage_is old_defs).counts p.id id vs
+  counts_then id vs = (K.stage_is has_tables).counts p.id id vs
 
   -- the cells have what the script has
   as_script : (id : ℕ) → 1 ≤ id → cell_of id ≡ catalog_at → versions_at C' id ≡ versions_of E id
@@ -419,8 +428,8 @@ module _ (v : Server) (cells : List Cell) (seats : List SeatState) {history : Hi
         ∙ undone_of_key (columns_at (defs_of T) id) key o.id 0 (versions_at C' id) ∙ ap (of_key (columns_at (defs_of T) id) key) (undone_is id l e))
         (λ id l ne h has u reach. key_else id key (versions_undone h.tx 0) ne ∙ S.rows_agree.undone id key l h (was_held (cell_of id) h has) u reach) id l;
     rising = rising_then;
-    back = each_open seats j (sits s y) x o y p goes (λ n z q. GoesBackTo z.place q.seq) ((K.stage_is old_defs).goes_to p.seq) (λ n z q ne g. S.rows_agree.back n z q g);
-    explicit = each_open seats j (sits s y) x o y p goes (λ n z q. IsExplicitAt z.place q.explicit) (subst (IsExplicitAt (inside text stage)) (sym (K.alike.explicit ∙ K.alone)) (K.stage_is old_defs).explicit) (λ n z q ne g. S.rows_agree.explicit n z q g);
+    back = each_open seats j (sits s y) x o y p goes (λ n z q. GoesBackTo z.place q.seq) ((K.stage_is has_tables).goes_to p.seq) (λ n z q ne g. S.rows_agree.back n z q g);
+    explicit = each_open seats j (sits s y) x o y p goes (λ n z q. IsExplicitAt z.place q.explicit) (subst (IsExplicitAt (inside text stage)) (sym (K.alike.explicit ∙ K.alone)) (K.stage_is has_tables).explicit) (λ n z q ne g. S.rows_agree.explicit n z q g);
     before = each_open seats j (sits s y) x o y p goes
         (λ n z q. q.end ≡ unfixed → (id : ℕ) → 1 ≤ id → AllByRecursion (MadeBefore q.id q.seq) (counted q.id id z.place (versions_at C' id)))
         (λ e id l. subst (AllByRecursion (MadeBefore p.id p.seq)) (sym (counts_then id _)) (subst (λ (n : ℕ). AllByRecursion (MadeBefore n p.seq) (versions_at C' id)) (sym K.alike.id) (before_then id l)))
@@ -581,7 +590,7 @@ module _ (v : Server) (cells : List Cell) (seats : List SeatState) {history : Hi
         }))
         (λ n z q ne h e. looked_so v C' T q z.place (λ l. looked_still z.place q (looked_now v cells T q z.place (S.locks_cover.looked n z q h e) l)));
     on_whole = λ h has. S.locks_cover.on_whole h (was_held catalog_at h has);
-    looked_first = each_open seats j (sits s y) x o y p goes (λ n z q. q.end ≡ unfixed → LookedFirst z.place → RequestsNone v C' T q) (λ e h. absurd ((K.stage_is old_defs).not_first h))
+    looked_first = each_open seats j (sits s y) x o y p goes (λ n z q. q.end ≡ unfixed → LookedFirst z.place → RequestsNone v C' T q) (λ e h. absurd ((K.stage_is has_tables).not_first h))
         (λ n z q ne h e f. let was = S.locks_cover.looked_first n z q h e f in record { before = was.before; shares = λ h has m. was.shares h (was_held catalog_at h has) m; elsewhere = λ m l. was.elsewhere m (lock_was (suc m) q.id l) });
     cover = each_open seats j (sits s y) x o y p goes (λ n z q. (m : ℕ) → KeepsLocks q m → Each (λ l. Each (Holds (holds_at C' m) q.id) (requests_in v (defs_of T) q.explicit m l.0)) (script_so_far z q))
         (λ m u. subst (Each (λ l. Each (Holds (holds_at C' m) p.id) (requests_in v (defs_of T) p.explicit m l.0))) (sym same_script)
@@ -592,9 +601,9 @@ module _ (v : Server) (cells : List Cell) (seats : List SeatState) {history : Hi
         (λ m e l. absurd (subst (λ (u : End). EndsAt u m) (K.alike.end ∙ K.unfixed) e))
         (λ n z q ne h m e l. S.locks_cover.definitions n z q m h e (lock_was catalog_at q.id l)) n z q h m e l;
     got = each_open seats j (sits s y) x o y p goes (λ n z q. HasLock C' catalog_at q.id → IsGotAt v C' T q.id (not (in_journal S.ledger.items (q.id, 0))) z.place)
-        (λ l. subst (λ (b : Bool). IsGotAt v C' T p.id b y.place) (sym (ap (λ (n : ℕ). not (in_journal S.ledger.items (n, 0))) K.alike.id ∙ ap not (mine_out 0))) (got_at_more v T (Unit {0}) (HasAlone (contents C') p.id) true (λ u. alone_then) y.place (K.stage_is old_defs).got))
+        (λ l. subst (λ (b : Bool). IsGotAt v C' T p.id b y.place) (sym (ap (λ (n : ℕ). not (in_journal S.ledger.items (n, 0))) K.alike.id ∙ ap not (mine_out 0))) (got_at_more v T (Unit {0}) (HasAlone (contents C') p.id) true (λ u. alone_then) y.place (K.stage_is has_tables).got))
         (λ n z q ne h l. got_at_more v T (HasAlone (contents cells) q.id) (HasAlone (contents C') q.id) (not (in_journal S.ledger.items (q.id, 0))) (subst (In _) (sym (held_same catalog_at))) z.place (S.locks_cover.got n z q h (lock_was catalog_at q.id l)));
-    dropping = each_open seats j (sits s y) x o y p goes (λ n z q. IsDropping z.place q → In (record { tx = q.id; request = whole X }) (holds_at C' catalog_at)) (λ h. absurd ((K.stage_is old_defs).not_dropping p h))
+    dropping = each_open seats j (sits s y) x o y p goes (λ n z q. IsDropping z.place q → In (record { tx = q.id; request = whole X }) (holds_at C' catalog_at)) (λ h. absurd ((K.stage_is has_tables).not_dropping p h))
         (λ n z q ne g h. subst (In _) (sym (held_same catalog_at)) (S.locks_cover.dropping n z q g h));
     under = under_then;
   }
@@ -621,7 +630,7 @@ module _ (v : Server) (cells : List Cell) (seats : List SeatState) {history : Hi
     stands = refl;
     is = K.is;
     creates = K.creates;
-    acted = (K.stage_is old_defs).acted;
+    acted = (K.stage_is has_tables).acted;
     exclusive = subst (λ (n : ℕ). In (record { tx = n; request = whole X }) (holds_at C' catalog_at)) (sym K.alike.id) (subst (In _) (sym (held_same catalog_at)) exclusive);
   }
 
@@ -629,15 +638,15 @@ module _ (v : Server) (cells : List Cell) (seats : List SeatState) {history : Hi
   unfolding it_creates
   definitions_then = ⊎_elim
       (λ (e : (new.defs ≡ old.defs) × (new.creator ≡ old.creator)). inl (e.0 ∙ old_defs))
-      (λ (e : (new.creator ≡ Some (record { tx = o.id; before = old.defs })) × (old.defs ≡ defs_of T → new.defs ≡ defs_of (defined (change_set T stmt).definition T))).
-      inr (record { x = y; stmt = stmt; by = it_creates; has_creator = e.0 ∙ ap₂ (λ (n : ℕ) (ds : Defs). Some (record { tx = n; before = ds })) (sym K.alike.id) old_defs; is = e.1 old_defs }))
+      (λ (e : (new.creator ≡ Some (record { tx = o.id; before = old.defs })) × (HasTables old T → new.defs ≡ defs_of (defined (change_set T stmt).definition T))).
+      inr (record { x = y; stmt = stmt; by = it_creates; has_creator = e.0 ∙ ap₂ (λ (n : ℕ) (ds : Defs). Some (record { tx = n; before = ds })) (sym K.alike.id) old_defs; is = e.1 has_tables }))
       K.creator
 
   creator_then : (k : Creator) → new.creator ≡ Some k → GoesBack v C' S.ledger k
   creator_then k f = ⊎_elim
       (λ (e : (new.defs ≡ old.defs) × (new.creator ≡ old.creator)). let was = S.tables_are_serial.goes_back k (ap (λ (q : CatalogCell). q.creator) (sym is_catalog) ∙ sym e.1 ∙ f) in
       record { exclusive = subst (In (record { tx = k.tx; request = whole X })) (sym (held_same catalog_at)) was.exclusive; before = was.before })
-      (λ (e : (new.creator ≡ Some (record { tx = o.id; before = old.defs })) × (old.defs ≡ defs_of T → new.defs ≡ defs_of (defined (change_set T stmt).definition T))).
+      (λ (e : (new.creator ≡ Some (record { tx = o.id; before = old.defs })) × (HasTables old T → new.defs ≡ defs_of (defined (change_set T stmt).definition T))).
       let one : Some (record { tx = o.id; before = old.defs }) ≡ Some k = sym e.0 ∙ f in
       let same : record { tx = o.id; before = old.defs } ≡ k = cc in
       subst (GoesBack v C' S.ledger) same (record { exclusive = subst (In (record { tx = o.id; request = whole X })) (sym (held_same catalog_at)) exclusive; before = λ u. old_defs }))
@@ -665,7 +674,7 @@ module _ (v : Server) (cells : List Cell) (seats : List SeatState) {history : Hi
   -- ---- what is shown
 
   act : TranscriptsAgree v (history ++ by (g v cells seats S j s K.there x K.role o K.open_one).runs.number (looks text false) ∷ []) S.ledger seats'
-  act = let stands = K.stage_is old_defs in
+  act = let stands = K.stage_is has_tables in
       asks_act v cells seats S j s K.there x K.role o K.open_one K.unfixed text begun K.place refl false stage p K.alike stands.asks (λ f. cc)
       (λ answered a h. ⊎_elim (λ (k : IsAnswered answered a). inl k) (λ (k : ⊥). absurd k) h)
       (from_at v.meaning x y (inside text begun) (Some o) [] K.place K.open_one refl (λ n i f. let z = fits_if v.meaning n text begun o false K.alone f in record {
@@ -728,9 +737,9 @@ module _ (v : Server) (cells : List Cell) (seats : List SeatState) {history : Hi
           definitions = definitions_then;
           goes_back = creator_then;
           carried = each_open seats j (sits s y) x o y p goes (λ n z q. q.end ≡ unfixed → IsCarried new.defs T (script_end v T z q).state.tables)
-              (λ e. inl (K.left old_defs ∙ ap defs_of (sym end_tables)))
+              (λ e. inl (K.left has_tables ∙ ap defs_of (sym end_tables)))
               (λ n z q ne h e. inr (others_keep v cells seats S o.id exclusive n z q h e (other_id n z q ne h)));
-          indexed = each_open seats j (sits s y) x o y p goes (λ n z q. q.end ≡ unfixed → IsIndexed C' z.place) (λ e. (K.stage_is old_defs).indexed C') (λ n z q ne h e. indexed_else z.place (S.tables_are_serial.indexed n z q h e));
+          indexed = each_open seats j (sits s y) x o y p goes (λ n z q. q.end ≡ unfixed → IsIndexed C' z.place) (λ e. (K.stage_is has_tables).indexed C') (λ n z q ne h e. indexed_else z.place (S.tables_are_serial.indexed n z q h e));
           versions = by_cell (λ id. committed S.ledger.items (versions_at C' id) ≡ versions_of T id)
               (λ id l e. committed_undone S.ledger.items o.id (mine_out 0) (versions_at C' id) ∙ ap (committed S.ledger.items) (undone_is id l e ∙ sym (were id l e)) ∙ S.tables_are_serial.versions id l)
               (λ id l ne. ap (committed S.ledger.items) (rows_else id ne) ∙ S.tables_are_serial.versions id l);

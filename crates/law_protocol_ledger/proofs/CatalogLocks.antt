@@ -3,7 +3,7 @@ use Rattle.std.proofs.Common.{◌≡◌, ◌≢◌, ℕ, ◌⊎◌, Bool, true, 
 use Rattle.std.specs.Prelude.{◌&&◌, ◌||◌}
 use Rattle.std.specs.List.{AllByRecursion}
 use Rattle.sql_types.specs.declared.lock.Mode.{Mode}
-use Rattle.sql_types.specs.declared.lock.Mode.TheVariants.{IS, IX, S, X}
+use Rattle.sql_types.specs.declared.lock.Mode.TheVariants.{S, X}
 use Rattle.sql_types.specs.declared.statement.Stmt.{Stmt}
 use Rattle.sql_types.specs.declared.statement.Stmt.TheVariants as s
 use Rattle.sql_types.specs.declared.lock.LockRequest.{LockRequest}
@@ -25,6 +25,7 @@ use Rattle.spec_protocol.specs.RequestsIn.{of_catalog, of_cell, requests_in, Hol
 use Rattle.spec_protocol.specs.LocksAgree.{LocksAgree}
 use Rattle.law_protocol_steps.proofs.Ids.{each_in}
 use Rattle.law_protocol_steps.proofs.OthersAgree.{AllLocked}
+use Rattle.law_protocol_steps.proofs.Excluded.{x_conflicts}
 
 -- ---- who wants nothing in the catalog does nothing
 
@@ -80,13 +81,6 @@ requests_or_not v defs explicit (t ∷ ts) = first (text_requests defs explicit 
         → RequestsCatalog v defs explicit (t ∷ ts) ⊎ Each (λ t. (text_requests defs explicit (v.reads t)).catalog ≡ None) (t ∷ ts)
     first (Some m) e r = inl (record { text = t; is = inl refl; mode = m; requests = e })
     first None e r = ⊎_elim (λ w. inl (record { text = w.text; is = inr w.is; mode = w.mode; requests = w.requests })) (λ n. inr (e, n)) r
-
-x_conflicts : (m : Mode) → conflict m X ≡ true
-unfolding conflict
-x_conflicts IS = refl
-x_conflicts IX = refl
-x_conflicts S = refl
-x_conflicts X = refl
 
 module _ (v : Server) (c : Contents) (seats : List SeatState) (agree : LocksAgree c seats) (T : Tables) (j : ℕ) (x : Session) (o : OpenTransaction) (has : HasOpen seats j x o) (texts : List Text) (locked : AllLocked v c T o.explicit o.id texts)
     (requests : RequestsCatalog v (defs_of T) o.explicit texts) where

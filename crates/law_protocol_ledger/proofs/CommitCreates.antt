@@ -1,4 +1,6 @@
--- The visit in which a CREATE is committed: nobody else has any lock then.
+-- The visit in which a statement that changes definitions is committed: nobody else has any lock then.
+use Rattle.law_frame.specs.Alters.{Alters}
+use Rattle.law_journal.proofs.SoFar.{stay_fit}
 use Rattle.law_journal.specs.Fits as row_fits
 use Rattle.spec_protocol.specs.TablesAreSerial.{AreIndexes, IsIndexed, StandsAs, TableStands, IsCarried}
 use Rattle.sql_types.specs.declared.lock.Mode.TheVariants.{X}
@@ -69,8 +71,9 @@ use Rattle.law_protocol_changes.proofs.SaysHistory.{told}
 use Rattle.law_protocol_steps.proofs.OpenSeats.{Own, was_open}
 use Rattle.law_protocol_steps.proofs.OthersScripts.{sound_for, locked, script_stays, savepoints_stay, each_map}
 use Rattle.spec_protocol.specs.RowsAgree.{RowsAgree, GoesBackTo, IsExplicitAt}
+use Rattle.sql_types.specs.declared.table.Part.TheVariants.{Base}
 use Rattle.sql_types.specs.declared.table.TableDef.{TableDef}
-use Rattle.spec_model.specs.ChangeSets.{as_before, in_place, defined, change_set, Definition, new}
+use Rattle.spec_model.specs.ChangeSets.{altered, as_before, in_place, defined, change_set, Definition, new}
 use Rattle.law_protocol_ledger.proofs.CommitRows.{sound_left, undone_end}
 use Rattle.law_protocol_steps.proofs.CommitsLedger.{counts}
 use Rattle.law_protocol_steps.proofs.OfCells.{HasLooked, looked_now, looked_so}
@@ -84,7 +87,7 @@ use Rattle.sql_types.specs.declared.lock.Mode.{Mode}
 use Rattle.sql_types.specs.declared.lock.LockRequest.{LockRequest}
 use Rattle.law_protocol_steps.proofs.CatalogAlone.{alone}
 use Rattle.law_frame.proofs.ByKeys.{by_keys}
-use Rattle.law_protocol_ledger.proofs.CreatedTables.{created_tables, effect_defs, users_stay, Makes, index_later, made_by, makes_index, makes_none, makes_table, no_requests, same_request}
+use Rattle.law_protocol_ledger.proofs.CreatedTables.{created_tables, effect_defs, users_stay, Makes, index_later, made_by, makes_altered, makes_index, makes_none, makes_table, no_requests, same_request}
 use Rattle.spec_model.specs.Effect.{effect}
 use Rattle.law_protocol_changes.proofs.CreateVisits.{has_whole}
 use Rattle.law_protocol_changes.proofs.Creating.{no_cell, x_of}
@@ -92,7 +95,7 @@ use Rattle.law_frame.proofs.UndoneVersions.{nothing_undone}
 use Rattle.law_protocol_changes.proofs.ChangedRows.{rising_undone, undone_of_key}
 use Rattle.spec_model.specs.Locks.{whole}
 use Rattle.sql_value.specs.declared.column.ColumnDef.{ColumnDef}
-use Rattle.law_protocol_steps.proofs.DefsAfter.{IndexMade, else_redefined, found_id, here_redefined, index_made, kept_append, new_append}
+use Rattle.law_protocol_steps.proofs.DefsAfter.{IndexMade, else_redefined, found_at, found_id, here_redefined, index_made, kept_append, new_append}
 use Rattle.law_journal.proofs.DefLists.{defs_append, defs_redefined, redef}
 use Rattle.law_protocol_steps.proofs.SeatsAfter.{one_session, Goes, each_open, open_else, open_here}
 use Rattle.std.specs.List.{AllByRecursion}
@@ -420,8 +423,19 @@ module _ (v : Server) (cells : List Cell) (seats : List SeatState) {history : Hi
     indexes = inl (no_indexes cell.indexes h.2 ∙ ap ordinals_of (sym none));
   }
 
+  -- so stands a table's cell under the definition that ALTER TABLE or DROP TABLE puts in the place of its own
+  altered_stands : (cell : TableCell) (old def : TableDef) → Alters old def → ((a : Adds old.id) → ⊥) → TableStands v c k seats cell old → TableStands v c m after cell def
+  altered_stands cell old def g none h = record {
+    key = ⊎_elim (λ (e : cell.versions ≡ []). inl e) (λ (e : cell.key ≡ key_places old.columns). inr (e ∙ sym g.key)) h.key;
+    fit = each_weaker (λ w. row_fits.FitsSoFar old.columns w.values) (λ w. row_fits.FitsSoFar def.columns w.values) (λ w f. stay_fit old.columns def.columns w.values g.columns f) cell.versions h.fit;
+    in_key_order = h.in_key_order ∙ ap (λ (key : List ℕ). map (λ w. w.start) (live_by_key_at key None cell.versions)) (sym g.key);
+    keys_differ = subst (λ (key : List ℕ). KeysDiffer key (live cell.versions)) (sym g.key) h.keys_differ;
+    projections = subst (λ (key : List ℕ). Each (IsSortedProjection key cell.versions) cell.indexes) (sym g.key) h.projections;
+    indexes = inl (⊎_elim (λ (e : map (λ x. x.ordinals) cell.indexes ≡ ordinals_of old.indexes). e ∙ ap ordinals_of (sym g.indexes)) (λ a. absurd (none a)) (adds_or_not old _ h.indexes));
+  }
+
   tables_then : (i : ℕ) (cell : TableCell) → c.table i ≡ some cell → StandsAs v c m after cell (def_at (defs_of m.tables) cell.id)
-  tables_then i cell at = by (made_by T p.stmt creating (v.steady p.text p.stmt p.is))
+  tables_then i cell at = by (made_by T p.stmt creating)
     where
       was : StandsAs v c k seats cell (def_at (defs_of T) cell.id)
       was = st.tables_are_serial.tables i cell at
@@ -475,6 +489,21 @@ module _ (v : Server) (cells : List Cell) (seats : List SeatState) {history : Hi
               (stays_or_none cell (def_at (defs_of T) cell.id) (λ def f a. let z : made a.def true ≡ made wi true = sym a.added ∙ its_stage in let one : a.def ≡ wi = cc in
               ne (sym (found_id (defs_of T) cell.id def f) ∙ sym a.here ∙ ap (λ (d : TableDef). d.id) one)) was))
               (cases_eq cell.id wi.id)
+      by (makes_altered def g e) = over (altered def) e (StandsAs v c m after cell) (subst (λ (ds : Defs). StandsAs v c m after cell (def_at ds cell.id)) (sym (defs_redefined def T)) by_id)
+        where
+          no_index : (id : ℕ) → Adds id → ⊥
+          no_index id a = let z : altered def ≡ in_place a.def = sym e ∙ in_place_of a.def a.added in cc
+
+          there_is : def_at (defs_of T) def.id ≡ Some g.old
+          there_is = ap (def_at (defs_of T)) g.alters.id ∙ (found_at 1 (defs_of T) g.name (g.old, Base) sound.ids g.found).at
+
+          by_id : StandsAs v c m after cell (def_at (redef def (defs_of T)) cell.id)
+          by_id = ⊎_elim
+              (λ (f : cell.id ≡ def.id). subst (StandsAs v c m after cell) (sym (ap (def_at (redef def (defs_of T))) f ∙ here_redefined def g.old (defs_of T) there_is))
+              (altered_stands cell g.old def g.alters (no_index g.old.id) (subst (StandsAs v c k seats cell) (ap (def_at (defs_of T)) f ∙ there_is) was)))
+              (λ (ne : cell.id ≢ def.id). subst (StandsAs v c m after cell) (sym (else_redefined def cell.id (defs_of T) ne))
+              (stays_or_none cell (def_at (defs_of T) cell.id) (λ d f. no_index d.id) was))
+              (cases_eq cell.id def.id)
 
   -- ---- the seat
 

@@ -1,4 +1,5 @@
--- The tables after a CREATE: the definitions are those of its plan, and the versions of the tables of users stay.
+-- The tables after a statement that changes definitions: these are those of its changes, and the versions of the tables
+-- of users stay.
 use Rattle.spec_protocol.specs.LocksCover.{IsRepliedTo}
 use Rattle.sql_types.specs.declared.statement.Stmt.TheVariants as st
 use Rattle.spec_model.specs.ChangeSets.{Definition, altered, altered_change_set, as_before, new, in_place, change_set, defined, changed_from, create_index_change_set, create_table_change_set}
@@ -15,11 +16,13 @@ use Rattle.spec_protocol.specs.Cells.{catalog_at, cell_of}
 use Rattle.spec_model.specs.Locks.{catalog_request, cell_requests}
 use Rattle.law_protocol_steps.proofs.DefsAfter.{altered_not}
 use Rattle.law_protocol_steps.proofs.NewLine.{changed_else}
+use Rattle.law_frame.proofs.Alterations.{altering}
 use Rattle.law_frame.proofs.Definitions.{changes_keep_defs}
+use Rattle.law_frame.specs.Alters.{Altering}
 use Rattle.spec_model.specs.Alter.{Altered, alteration, table_drop}
 use Rattle.spec_model.specs.Create.{create_check, index_check, with_index}
 use Rattle.law_journal.proofs.Created.{created}
-use Rattle.spec_model.specs.Reach.{alters, creates}
+use Rattle.spec_model.specs.Reach.{creates}
 use Rattle.spec_model.specs.SystemTables.{columns_id, tables_id}
 use Rattle.law_journal.proofs.DefLists.{defs_append, defs_redefined, redef}
 use Rattle.spec_model.specs.Effect.{altered_effect, effect, index_effect, table_effect}
@@ -77,22 +80,28 @@ pub data Makes (T : Tables) (stmt : Stmt) : Type 0 where
   makes_none : (change_set T stmt).definition ≡ as_before → Makes T stmt
   makes_table : (def : TableDef) → def.indexes ≡ [] → (change_set T stmt).definition ≡ new def → Makes T stmt
   makes_index : (def : TableDef) → (change_set T stmt).definition ≡ in_place def → Makes T stmt
+  makes_altered : (def : TableDef) → Altering (defs_of T) def → (change_set T stmt).definition ≡ altered def → Makes T stmt
 
-pub made_by : (T : Tables) (stmt : Stmt) → creates stmt ≡ true → alters stmt ≡ false → Makes T stmt
+-- it puts a definition in the place of its table's, or is refused
+if_altered : (T : Tables) (stmt : Stmt) (m : Checked Altered) → (change_set T stmt).definition ≡ (altered_change_set m).definition → Makes T stmt
+if_altered T stmt (Ok a) e = makes_altered a.def (altering T a.def stmt e) e
+if_altered T stmt (Err r) e = makes_none e
+
+pub made_by : (T : Tables) (stmt : Stmt) → creates stmt ≡ true → Makes T stmt
 unfolding change_set
-made_by T (st.Create c) e steady = by (create_check (defs_of T) c) refl
+made_by T (st.Create c) e = by (create_check (defs_of T) c) refl
   where
     by : (m : Checked TableDef) → create_check (defs_of T) c ≡ m → Makes T (st.Create c)
     by (Ok def) f = makes_table def (created (defs_of T) c def f).indexes (ap (λ m. (create_table_change_set m).definition) f)
     by (Err r) f = makes_none (ap (λ m. (create_table_change_set m).definition) f)
-made_by T (st.Index c) e steady = by (index_check (defs_of T) c) refl
+made_by T (st.Index c) e = by (index_check (defs_of T) c) refl
   where
     by : (m : Checked (TableDef × IndexDef)) → index_check (defs_of T) c ≡ m → Makes T (st.Index c)
     by (Ok x) f = makes_index (with_index x.0 x.1) (ap (λ m. (create_index_change_set m).definition) f)
     by (Err r) f = makes_none (ap (λ m. (create_index_change_set m).definition) f)
-made_by T (st.Alter a) e steady = cc
-made_by T (st.Drop name) e steady = cc
-made_by T stmt e steady = cc
+made_by T (st.Alter a) e = if_altered T (st.Alter a) (alteration (defs_of T) (versions_of T tables_id) (versions_of T columns_id) a) refl
+made_by T (st.Drop name) e = if_altered T (st.Drop name) (table_drop (defs_of T) (versions_of T tables_id) (versions_of T columns_id) name) refl
+made_by T stmt e = cc
 
 -- ---- what wants nothing in the catalog wants nothing
 

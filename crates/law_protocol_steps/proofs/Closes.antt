@@ -19,7 +19,7 @@ use Rattle.spec_history.specs.Sessions.{SessionState, transcript_of}
 use Rattle.spec_history.specs.Worlds.{World, first, step, run}
 use Rattle.spec_history.proofs.Cuts.{run_append, of_append}
 use Rattle.spec_history.proofs.Trace.{each_append, each_weaker, count_append}
-use Rattle.spec_history.proofs.Grows.{blocks_append, digest_stays}
+use Rattle.spec_history.proofs.Grows.{blocks_append, digest_stays, times_append}
 use Rattle.spec_protocol.specs.Server.{Server}
 use Rattle.spec_protocol.specs.Cells.{LedgerCell, Cell, Ledger, ledger_at, pending_in}
 use Rattle.spec_protocol.specs.Contents.{Contents, Known, contents, known, has_id}
@@ -37,7 +37,7 @@ use Rattle.spec_protocol.specs.StandTogether.{History, Stands}
 use Rattle.law_protocol_steps.proofs.JournalMore.{legal_more, serial_more}
 use Rattle.law_protocol_steps.proofs.LedgerKept.{same_contents, are_cells}
 use Rattle.law_protocol_steps.proofs.LedgerVisit.{the_ledger}
-use Rattle.law_protocol_steps.proofs.OneMore.{good_snoc, images_stay, times_append}
+use Rattle.law_protocol_steps.proofs.OneMore.{good_snoc, images_stay}
 use Rattle.spec_protocol.proofs.Places.{set_same}
 use Rattle.spec_protocol.specs.RowsAgree.{RowsAgree}
 use Rattle.spec_protocol.specs.Ledger as of_journal

@@ -64,7 +64,7 @@ none_reach holds tx key (w ∷ ws) none_has h = rw (held_reach holds tx key w no
 
 -- ---- nobody else has X on what a want relies on
 
-x_conflicts : (m : Mode) → conflict m X ≡ true
+pub x_conflicts : (m : Mode) → conflict m X ≡ true
 unfolding conflict
 x_conflicts IS = refl
 x_conflicts IX = refl

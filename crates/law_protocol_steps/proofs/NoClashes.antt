@@ -1,5 +1,5 @@
 -- Statements of two seats whose wants are locked don't clash.
-use Rattle.std.proofs.Common.{◌≡◌, ◌≢◌, ℕ, Bool, true, false, List, [], ◌∷◌, ◌++◌, Option, Some, None, refl, sym, ◌∙◌, subst, eqb-true}
+use Rattle.std.proofs.Common.{◌≡◌, ◌≢◌, ℕ, Bool, true, false, List, [], ◌∷◌, Option, Some, None, refl, sym, ◌∙◌, subst, eqb-true}
 use Rattle.std.proofs.lemmas.Bool.{eq-eqb, or_from}
 use Rattle.std.specs.Prelude.{◌==◌, ◌&&◌, if◌then◌else◌}
 use Rattle.std.specs.List.{list_any}
@@ -14,6 +14,7 @@ use Rattle.spec_model.specs.Locks.{CellRequests, whole, conflict, same_item, req
 use Rattle.spec_model.specs.Agreement.{LockRequests, requests_of}
 use Rattle.law_frame.proofs.SameKeys.{same_key_as, same_itself}
 use Rattle.spec_history.specs.Lists.{Each}
+use Rattle.spec_history.proofs.Refused.{each_left, each_right}
 use Rattle.spec_protocol.specs.Cells.{catalog_at, cell_of}
 use Rattle.spec_protocol.specs.Contents.{Contents}
 use Rattle.spec_protocol.specs.Seats.{OpenTransaction, Session, SeatState}
@@ -52,14 +53,6 @@ pub like_requests : (x a y b : LockRequest) → same_item x.item a.item ≡ true
 like_requests x a y b e m f n = (λ i. like_items x.item a.item y.item b.item e f i && conflict (m i) (n i))
 
 -- ---- two seats
-
-each_left : {A : Type 0} (P : A → Type 0) (xs ys : List A) → Each P (xs ++ ys) → Each P xs
-each_left P [] ys h = tt
-each_left P (x ∷ xs) ys h = (h.0, each_left P xs ys h.1)
-
-each_right : {A : Type 0} (P : A → Type 0) (xs ys : List A) → Each P (xs ++ ys) → Each P ys
-each_right P [] ys h = h
-each_right P (x ∷ xs) ys h = each_right P xs ys h.1
 
 module _ (c : Contents) (seats : List SeatState) (agree : LocksAgree c seats) (i j : ℕ) (y x : Session) (p o : OpenTransaction) (ne : i ≢ j) (has_p : HasOpen seats i y p) (has_o : HasOpen seats j x o) where
   free_pair : (n : ℕ) (a b : LockRequest) → Holds (c.holds n) p.id a → Holds (c.holds n) o.id b → requests_conflict a b ≡ false

@@ -7,7 +7,6 @@ use Rattle.std.specs.Prelude.{◌==◌}
 use mathlib.Core.Option.{some, some-injective}
 use lib.ListN.{get_elem?}
 use Rattle.sql_types.specs.declared.journal.JournalItem.{JournalItem}
-use Rattle.sql_types.specs.declared.journal.JournalItem.TheVariants.{Tx, Close}
 use Rattle.spec_model.specs.Journals.{tx_count, cut}
 use Rattle.spec_history.specs.Lists.{Text, Each, In}
 use Rattle.spec_history.specs.Journals.{times}
@@ -25,6 +24,7 @@ use Rattle.spec_history.proofs.Cuts.{run_append, of_append, good_append}
 use Rattle.spec_history.proofs.Trace.{each_append, each_weaker, count_append}
 use Rattle.spec_history.proofs.Settles.{in_right}
 use Rattle.spec_history.proofs.Setup.{silent}
+use Rattle.spec_history.proofs.Grows.{times_append}
 use Rattle.spec_protocol.specs.Server.{Server, journal_image}
 use Rattle.spec_protocol.specs.Cells.{LedgerCell}
 use Rattle.spec_protocol.specs.Seats.{KeptImage, Session, Written, Role, idle, session, builder, SeatState}
@@ -183,11 +183,6 @@ module _ (q : Meaning) (db : Text) (h : List Act) (good : Good q db first h) (n 
     }
 
 -- ---- the whole
-
-pub times_append : (J K : List JournalItem) → times (J ++ K) ≡ times J ++ times K
-times_append [] K = refl
-times_append (Tx id name time explicit script ∷ is) K = ap (λ (l : List ℕ). time ∷ l) (times_append is K)
-times_append (Close k ∷ is) K = times_append is K
 
 pub differ_front : (ns : List ℕ) (n : ℕ) → Differ (ns ++ n ∷ []) → Each (λ m. m ≢ n) ns
 differ_front [] n d = tt

@@ -1,10 +1,11 @@
 -- A script leaves the rows of a key on which its transaction has no X; and where it doesn't create, undone as a whole it leaves the tables.
-use Rattle.std.proofs.Common.{◌≡◌, Bool, List, None, Option, Some, [], ap, false, refl, subst, sym, true, ℕ, ◌++◌, ◌∙◌, ◌∷◌, ⊎_elim}
+use Rattle.std.proofs.Common.{◌≡◌, Bool, List, None, Option, Some, [], ap, false, refl, subst, sym, true, ℕ, ◌∙◌, ◌∷◌, ⊎_elim}
 use Rattle.std.specs.List.{AllByRecursion, list_any}
 use Rattle.spec_model.specs.Locks.{CellRequests, whole}
 use Rattle.law_frame.proofs.UndoneWhole.{CreatesNot, one_undone, opened_undone}
 use Rattle.spec_model.specs.Catalog.{Defs, Tables, defs_of, versions_of}
 use Rattle.spec_history.specs.Lists.{Each, Text}
+use Rattle.spec_history.proofs.Refused.{each_left, each_right}
 use Rattle.law_protocol_steps.proofs.Excluded.{HasNoX, held_reach, none_reach}
 use Rattle.sql_types.specs.declared.lock.Hold.{Hold}
 use Rattle.spec_protocol.specs.Cells.{catalog_at, cell_of}
@@ -53,14 +54,6 @@ module _ (holds : List Hold) (tx id : ℕ) (key : Key) (free : HasNoX holds tx k
   cell_left : (cell : CellRequests) → Each (Holds holds tx) (of_cell (cell_of id) cell) → cell_reaches id key cell ≡ false
   cell_left None h = refl
   cell_left (Some c) h = in_cell c (c.0 == id) refl h
-
-each_left : {A : Type 0} (P : A → Type 0) (xs ys : List A) → Each P (xs ++ ys) → Each P xs
-each_left P [] ys h = tt
-each_left P (x ∷ xs) ys h = (h.0, each_left P xs ys h.1)
-
-each_right : {A : Type 0} (P : A → Type 0) (xs ys : List A) → Each P (xs ++ ys) → Each P ys
-each_right P [] ys h = h
-each_right P (x ∷ xs) ys h = each_right P xs ys h.1
 
 system_cell : (id : ℕ) (m : Option Mode) → catalog_reaches id m ≡ true → cell_of id ≡ catalog_at
 system_cell id (Some mode.X) e = ⊎_elim

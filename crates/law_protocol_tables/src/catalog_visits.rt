@@ -13,7 +13,7 @@ ghost use Rattle.spec_protocol.specs.Cells.{Cell, Catalog, CatalogCell, catalog_
 ghost use Rattle.spec_protocol.specs.Seats.{SeatState};
 ghost use Rattle.sql_types.specs.declared.reply.Reply.TheVariants.{Refused};
 ghost use Rattle.sql_value.specs.declared.refusal.Refusal.TheVariants.{NoMemory, Locked};
-ghost use Rattle.spec_protocol.specs.CatalogVisits.{CreatesIndex, CreatesTable, ReleasesCatalogLock, Looks, ReadsSystem, RefusesCreate, StopsInCatalog};
+ghost use Rattle.spec_protocol.specs.CatalogVisits.{AltersTable, CreatesIndex, CreatesTable, ReleasesCatalogLock, Looks, ReadsSystem, RefusesCreate, StopsInCatalog};
 ghost use Rattle.spec_protocol.specs.UndoVisits.{ReleasesCatalog};
 ghost use Rattle.spec_protocol.specs.StandTogether.{History, LocksAskedFor, Stands, StandsAfter};
 
@@ -60,7 +60,18 @@ pub fn creating_an_index_keeps_standing()
         (slice_set cells catalog_at (Catalog d)) (slice_set seats j t) }
 {}
 
-/// A CREATE that the catalog refuses does.
+/// ALTER TABLE and DROP TABLE do.
+pub fn altering_a_table_keeps_standing()
+    ensures { (v : Server) (history : History) (cells : List Cell) (seats : List SeatState)
+        → Stands v history cells seats
+        → (j : ℕ) (s : SeatState) → get_elem? seats j ≡ some s
+        → (c d : CatalogCell) (t : SeatState) → get_elem? cells catalog_at ≡ some (Catalog c)
+        → (w : AltersTable v c s d t)
+        → StandsAfter v j history (looks w.at.stands.text false ∷ [])
+        (slice_set cells catalog_at (Catalog d)) (slice_set seats j t) }
+{}
+
+/// A statement that creates, alters or drops does where the catalog refuses it.
 pub fn refusing_a_create_keeps_standing()
     ensures { (v : Server) (history : History) (cells : List Cell) (seats : List SeatState)
         → Stands v history cells seats

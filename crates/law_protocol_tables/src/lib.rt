@@ -5,7 +5,8 @@ mod catalog_visits;
 mod table_visits;
 
 pub use catalog_visits::{
-    creating_a_table_keeps_standing, creating_an_index_keeps_standing, giving_back_keeps_standing,
+    altering_a_table_keeps_standing, creating_a_table_keeps_standing,
+    creating_an_index_keeps_standing, giving_back_keeps_standing,
     lacking_memory_in_the_catalog_keeps_standing, looking_up_keeps_standing,
     meeting_a_lock_in_the_catalog_keeps_standing, reading_a_system_table_keeps_standing,
     refusing_a_create_keeps_standing, releasing_the_catalog_keeps_standing,

@@ -31,12 +31,13 @@ use Rattle.law_protocol.proofs.OneAtATime.{IsPlain}
 use Rattle.spec_protocol.proofs.Places.{set_same, set_here, set_else, set_again}
 use Rattle.law_protocol.proofs.StepsAlone.{checked_plain, failed_in_plain}
 use Rattle.law_protocol.proofs.SinceFirst.{SinceFirst, since_first}
+use Rattle.law_protocol.proofs.FollowsSteps.{visit_plain}
 use Rattle.law_sequential.specs.SequentialRun.{SequentialRun, IsInside, StaysInside}
 use Rattle.law_sequential.specs.EndsLast.{Phase, running, ending, CameSo, InPhase, IsNoEnd, IsNoStatement}
 use Rattle.law_sequential.specs.InStep.{InStep, due_in, Waits}
 use Rattle.law_sequential.proofs.Calm.{Still, alone_still, alones_still, still_in_step}
 use Rattle.law_sequential.proofs.Closes.{in_step_append}
-use Rattle.law_sequential.proofs.VisitInStep.{LedgerAfter, visit_in_step, visit_plain}
+use Rattle.law_sequential.proofs.VisitInStep.{LedgerAfter, visit_in_step}
 
 -- ---- what more deeds add
 

@@ -31,7 +31,7 @@ use Rattle.spec_protocol.specs.JournalForms.{journal_in}
 use Rattle.spec_protocol.specs.Reordered.{NamesApart}
 use Rattle.spec_protocol.specs.SeatNames.{names_of, session_names}
 use Rattle.spec_protocol.specs.Seats.{KeptImage, Written, Role, session, SeatState, IsAtRest}
-use Rattle.spec_protocol.specs.Server.{IsSteady, Server, journal_image}
+use Rattle.spec_protocol.specs.Server.{Server, journal_image}
 use Rattle.spec_protocol.specs.StandTogether.{Stands}
 use Rattle.spec_protocol.specs.TranscriptsAgree.{IsImage, IsMoment, moments_of, session_moments}
 use Rattle.law_protocol.proofs.JournalKept.{legal_journal}
@@ -45,16 +45,16 @@ use Rattle.law_sequential.proofs.SameNames.{names_in}
 
 -- ---- for each meaning there is a server
 
-server_of : (h : List ℕ → List ℕ) (reads : Reading) → IsSteady reads → (q : Meaning) → IsMeaning h reads q → Server
-server_of h reads steady q m = record { reads = reads; steady = steady; hash = h; hashing = m.hashing; hashes = m.hashes; meaning = q; real = m.real }
+server_of : (h : List ℕ → List ℕ) (reads : Reading) (q : Meaning) → IsMeaning h reads q → Server
+server_of h reads q m = record { reads = reads; hash = h; hashing = m.hashing; hashes = m.hashes; meaning = q; real = m.real }
 
-serves : (h : List ℕ → List ℕ) (reads : Reading) (steady : IsSteady reads) (q : Meaning) (m : IsMeaning h reads q) → Serves h reads (server_of h reads steady q m)
+serves : (h : List ℕ → List ℕ) (reads : Reading) (q : Meaning) (m : IsMeaning h reads q) → Serves h reads (server_of h reads q m)
 unfolding server_of
-serves h reads steady q m = record { reading = refl; hash = refl }
+serves h reads q m = record { reading = refl; hash = refl }
 
-same_meaning : (h : List ℕ → List ℕ) (reads : Reading) (steady : IsSteady reads) (q : Meaning) (m : IsMeaning h reads q) → (server_of h reads steady q m).meaning ≡ q
+same_meaning : (h : List ℕ → List ℕ) (reads : Reading) (q : Meaning) (m : IsMeaning h reads q) → (server_of h reads q m).meaning ≡ q
 unfolding server_of
-same_meaning h reads steady q m = refl
+same_meaning h reads q m = refl
 
 -- and there is a meaning
 pub some_meaning : (h : List ℕ → List ℕ) (reads : Reading) → (q : Meaning) × IsMeaning h reads q
@@ -110,17 +110,17 @@ module _ {v : Server} {database : Text} {size : ℕ} {names : List Text} {lines 
   image_bytes_are : (h : List ℕ → List ℕ) (reads : Reading) → Serves h reads v → Outcome v database size names lines e.written l → Each (λ kept. Each (IsImageOf h reads database J) kept) images
   image_bytes_are h reads s o = subst₂ (λ (K : List JournalItem) (kept : List (List KeptImage)). Each (λ ks. Each (IsImageOf h reads database K) ks) kept) e.items e.kept (all_images h reads database v s l same_database e.written o.images)
 
-module _ (h : List ℕ → List ℕ) (reads : Reading) (steady : IsSteady reads) (database : Text) (size : ℕ) (names : List Text) (lines : List InputLine) (moments : List ℕ) (X : List Transcript) (images : List (List KeptImage)) (J : List JournalItem) (G : List Digest)
+module _ (h : List ℕ → List ℕ) (reads : Reading) (database : Text) (size : ℕ) (names : List Text) (lines : List InputLine) (moments : List ℕ) (X : List Transcript) (images : List (List KeptImage)) (J : List JournalItem) (G : List Digest)
     (named : names_in X ≡ names) (apart : NamesApart names) (ended : (v : Server) → Serves h reads v → HasEnded v database size names lines moments X images J G) where
-  abbrev by_meaning : (q : Meaning) (m : IsMeaning h reads q) → HasEnded (server_of h reads steady q m) database size names lines moments X images J G
-  by_meaning q m = ended (server_of h reads steady q m) (serves h reads steady q m)
+  abbrev by_meaning : (q : Meaning) (m : IsMeaning h reads q) → HasEnded (server_of h reads q m) database size names lines moments X images J G
+  by_meaning q m = ended (server_of h reads q m) (serves h reads q m)
 
   pub run_agrees : RunAgrees h reads database size names lines X images J G
   run_agrees = record {
-    agree = λ q m. subst (λ (p : Meaning). Agree p database (sessions_in lines names) None X J G) (same_meaning h reads steady q m) (agreed (by_meaning q m) (came_to (by_meaning q m) named apart));
-    in_order = λ q m. subst (λ (p : Meaning). StepOrder p size lines X J) (same_meaning h reads steady q m) (ordered (by_meaning q m) (came_to (by_meaning q m) named apart));
-    shown = λ q m. subst (λ (p : Meaning). map (λ kept. map (λ k. k.0) kept) images ≡ map (λ x. flat_map image_items (facts_of p x)) X) (same_meaning h reads steady q m) (their_images (by_meaning q m) (came_to (by_meaning q m) named apart));
-    are_images = let q = some_meaning h reads in image_bytes_are (by_meaning q.0 q.1) h reads (serves h reads steady q.0 q.1) (came_to (by_meaning q.0 q.1) named apart);
+    agree = λ q m. subst (λ (p : Meaning). Agree p database (sessions_in lines names) None X J G) (same_meaning h reads q m) (agreed (by_meaning q m) (came_to (by_meaning q m) named apart));
+    in_order = λ q m. subst (λ (p : Meaning). StepOrder p size lines X J) (same_meaning h reads q m) (ordered (by_meaning q m) (came_to (by_meaning q m) named apart));
+    shown = λ q m. subst (λ (p : Meaning). map (λ kept. map (λ k. k.0) kept) images ≡ map (λ x. flat_map image_items (facts_of p x)) X) (same_meaning h reads q m) (their_images (by_meaning q m) (came_to (by_meaning q m) named apart));
+    are_images = let q = some_meaning h reads in image_bytes_are (by_meaning q.0 q.1) h reads (serves h reads q.0 q.1) (came_to (by_meaning q.0 q.1) named apart);
   }
 
 -- ---- names and moments of seats

@@ -1,11 +1,11 @@
--- Each visit closes blocks in step, where it waits for a full block to be closed; and none begins a session.
+-- Each visit closes blocks in step, where it waits for a full block to be closed.
 use Rattle.std.proofs.Common.{◌≡◌, ◌≢◌, ℕ, ◌<◌, ◌≤◌, ◌+◌, true, List, [], ◌∷◌, length, Some, slice_set, sym, ap, subst, ◌∙◌}
 use Rattle.std.specs.Prelude.{◌==◌}
 use mathlib.Core.Option.{some, some-injective}
 use lib.ListN.{get_elem?}
 use Rattle.sql_types.specs.declared.journal.JournalItem.TheVariants.{Tx}
 use Rattle.spec_model.specs.Journals.{tx_count}
-use Rattle.spec_history.specs.Acts.{commits, issues, keeps}
+use Rattle.spec_history.specs.Acts.{keeps}
 use Rattle.spec_history.specs.Histories.{Due, full_or}
 use Rattle.spec_history.specs.Lists.{Each}
 use Rattle.spec_protocol.specs.Cells.{CatalogCell, LedgerCell, TableCell, Cell, Catalog, Ledger, Rows, AreCells, ledger_at, pending_in}
@@ -17,40 +17,12 @@ use Rattle.spec_protocol.specs.Server.{Server}
 use Rattle.spec_protocol.specs.Visits as visit
 use Rattle.spec_protocol.specs.Visits.{Visit, Happens}
 use Rattle.law_protocol.proofs.LedgerVisit.{the_ledger, lies_there}
-use Rattle.law_protocol.proofs.OneAtATime.{IsPlain}
 use Rattle.spec_protocol.proofs.Places.{set_here, set_else, set_same}
-use Rattle.law_protocol.proofs.StepsAlone.{closings_plain, done_plain, end_plain, failed_in_plain, says_plain, stopped_plain}
 use Rattle.law_sequential.specs.InStep.{InStep, due_in, Waits}
 use Rattle.law_sequential.proofs.Calm.{Calm, Still, calm_still, done_calm, failed_in_calm, stopped_calm, end_calm, still_in_step}
 use Rattle.law_sequential.proofs.LedgerInStep.{commit_in_step, close_in_step, issue_in_step, due_below}
 
--- ---- no session begins in a visit, takes up a statement or answers one
-
-pub visit_plain : (v : Server) (out : List (ℕ × Cell)) (how : Visit) (a : Cell) (s : SeatState) (b : Cell) (t : SeatState) (h : Happens v out how a s b t) → Each IsPlain (visit_anonymous_acts v out how a s b t h)
-visit_plain v out (visit.assign_id explicit) (Ledger a) s (Ledger b) t h = (tt, tt)
-visit_plain v out visit.look (Catalog a) s (Catalog b) t h = (tt, tt)
-visit_plain v out visit.read_system (Catalog a) s (Catalog b) t h = (tt, done_plain h.o.explicit h.at.stands.text true _)
-visit_plain v out visit.create_table (Catalog a) s (Catalog b) t h = (tt, tt)
-visit_plain v out visit.create_index (Catalog a) s (Catalog b) t h = (tt, tt)
-visit_plain v out visit.refuse_create (Catalog a) s (Catalog b) t h = (tt, tt)
-visit_plain v out visit.stop_in_catalog (Catalog a) s (Catalog b) t h = stopped_plain h.0.stopped h.0.at.stands.text _ (failed_in_plain v.meaning (Some h.0.o) h.0.at.stands.text)
-visit_plain v out visit.change (Rows a) s (Rows b) t h = done_plain h.o.explicit h.at.at.stands.text true _
-visit_plain v out visit.refuse_change (Rows a) s (Rows b) t h = done_plain h.o.explicit h.at.at.stands.text true _
-visit_plain v out visit.read (Rows a) s (Rows b) t h = done_plain h.o.explicit h.at.at.stands.text true _
-visit_plain v out visit.stop_in_table (Rows a) s (Rows b) t h = stopped_plain h.0.stopped h.0.at.at.stands.text _ (tt, tt)
-visit_plain v out visit.add_index (Rows a) s (Rows b) t h = tt
-visit_plain v out visit.undo_to (Rows a) s (Rows b) t h = tt
-visit_plain v out (visit.commit time) (Ledger a) s (Ledger b) t h = says_plain (lines_at h.stands.x.place) (commits time (tx_count a.items + 1) ∷ []) (tt, tt)
-visit_plain v out visit.read_point (Ledger a) s (Ledger b) t h = end_plain h.0.ends (tx_count a.items)
-visit_plain v out visit.release (Rows a) s (Rows b) t h = tt
-visit_plain v out visit.release_catalog (Catalog a) s (Catalog b) t h = tt
-visit_plain v out visit.give_back (Catalog a) s (Catalog b) t h = tt
-visit_plain v out (visit.close k) (Ledger a) s (Ledger b) t h = (tt, tt)
-visit_plain v out (visit.issue moment) (Ledger a) s (Ledger b) t h = closings_plain v (pending_in a) a (did (issues h.digest (tx_count a.items)) ∷ []) (tt, tt)
-visit_plain v out visit.lack_block (Ledger a) s (Ledger b) t h = (tt, tt)
-visit_plain v out visit.keep a s b t h = (tt, tt)
-visit_plain v out visit.nothing a s b t h = tt
-visit_plain v out how a s b t h = absurd h
+-- ---- most visits
 
 -- one that neither commits nor closes, issues a digest or keeps an image
 abbrev IsCalm : Visit → Type 0
@@ -66,6 +38,7 @@ visit_calm v out visit.look (Catalog a) s (Catalog b) t calm h = (tt, tt)
 visit_calm v out visit.read_system (Catalog a) s (Catalog b) t calm h = (tt, done_calm h.o.explicit h.at.stands.text true _)
 visit_calm v out visit.create_table (Catalog a) s (Catalog b) t calm h = (tt, tt)
 visit_calm v out visit.create_index (Catalog a) s (Catalog b) t calm h = (tt, tt)
+visit_calm v out visit.alter_table (Catalog a) s (Catalog b) t calm h = (tt, tt)
 visit_calm v out visit.refuse_create (Catalog a) s (Catalog b) t calm h = (tt, tt)
 visit_calm v out visit.stop_in_catalog (Catalog a) s (Catalog b) t calm h = stopped_calm h.0.stopped h.0.at.stands.text _ (failed_in_calm v.meaning (Some h.0.o) h.0.at.stands.text)
 visit_calm v out visit.change (Rows a) s (Rows b) t calm h = done_calm h.o.explicit h.at.at.stands.text true _
@@ -153,6 +126,7 @@ module _ (v : Server) (N : ℕ) (some_size : 1 ≤ N) (cells : List Cell) (catal
   visit_in_step visit.read_system (Catalog a) s (Catalog b) t e w h = in_catalog a (Catalog b) (visit_anonymous_acts v out visit.read_system (Catalog a) s (Catalog b) t h) e (visit_calm v out visit.read_system (Catalog a) s (Catalog b) t tt h)
   visit_in_step visit.create_table (Catalog a) s (Catalog b) t e w h = in_catalog a (Catalog b) (visit_anonymous_acts v out visit.create_table (Catalog a) s (Catalog b) t h) e (visit_calm v out visit.create_table (Catalog a) s (Catalog b) t tt h)
   visit_in_step visit.create_index (Catalog a) s (Catalog b) t e w h = in_catalog a (Catalog b) (visit_anonymous_acts v out visit.create_index (Catalog a) s (Catalog b) t h) e (visit_calm v out visit.create_index (Catalog a) s (Catalog b) t tt h)
+  visit_in_step visit.alter_table (Catalog a) s (Catalog b) t e w h = in_catalog a (Catalog b) (visit_anonymous_acts v out visit.alter_table (Catalog a) s (Catalog b) t h) e (visit_calm v out visit.alter_table (Catalog a) s (Catalog b) t tt h)
   visit_in_step visit.refuse_create (Catalog a) s (Catalog b) t e w h = in_catalog a (Catalog b) (visit_anonymous_acts v out visit.refuse_create (Catalog a) s (Catalog b) t h) e (visit_calm v out visit.refuse_create (Catalog a) s (Catalog b) t tt h)
   visit_in_step visit.stop_in_catalog (Catalog a) s (Catalog b) t e w h = in_catalog a (Catalog b) (visit_anonymous_acts v out visit.stop_in_catalog (Catalog a) s (Catalog b) t h) e (visit_calm v out visit.stop_in_catalog (Catalog a) s (Catalog b) t tt h)
   visit_in_step visit.change (Rows a) s (Rows b) t e w h = in_table a (Rows b) (visit_anonymous_acts v out visit.change (Rows a) s (Rows b) t h) e (visit_calm v out visit.change (Rows a) s (Rows b) t tt h)

@@ -31,7 +31,7 @@ ghost use Rattle.spec_protocol.specs.OneByOne.{IsOneAlone};
 ghost use Rattle.spec_protocol.specs.InactiveExcept.{IsInactive, InactiveExcept};
 ghost use Rattle.spec_protocol.specs.Reordered.{NamesApart};
 ghost use Rattle.spec_protocol.specs.Seats.{KeptImage, SeatState, Written, split};
-ghost use Rattle.spec_protocol.specs.Server.{IsSteady, Server};
+ghost use Rattle.spec_protocol.specs.Server.{Server};
 ghost use Rattle.spec_protocol.specs.Steps.{Step};
 ghost use Rattle.spec_protocol.specs.Serves.{Serves};
 ghost use Rattle.law_sequential.specs.SequentialRun.{SequentialRun, StaysInside};
@@ -140,13 +140,12 @@ pub fn sequential_runs_reach_their_outcome()
         → Outcome v database size names lines written c.ledger }
 {}
 
-/// So what has ended on each server that reads and hashes so agrees by every meaning that statements have. No
-/// text is read as a statement that alters a table.
+/// So what has ended on each server that reads and hashes so agrees by every meaning that statements have.
 pub fn ended_sequential_runs_agree()
     ensures { (h : List ℕ → List ℕ) (reads : Reading) (database : Text) (size : ℕ)
         (names : List Text) (lines : List InputLine) (moments : List ℕ) (X : List Transcript)
         (images : List (List KeptImage)) (J : List JournalItem) (G : List Digest)
-        → IsSteady reads → map (λ x. x.session) X ≡ names → NamesApart names
+        → map (λ x. x.session) X ≡ names → NamesApart names
         → ((v : Server) → Serves h reads v
         → HasEnded v database size names lines moments X images J G)
         → RunAgrees h reads database size names lines X images J G }

@@ -10,15 +10,14 @@ ghost use Rattle.format_image.specs.Image.{image_of};
 ghost use Rattle.format_image.specs.ImageBytes.{image_bytes};
 ghost use Rattle.spec_protocol.specs.Cells.{Cell};
 ghost use Rattle.spec_protocol.specs.Seats.{SeatState};
-ghost use Rattle.spec_protocol.specs.Server.{IsSteady, Server, journal_image};
+ghost use Rattle.spec_protocol.specs.Server.{Server, journal_image};
 ghost use Rattle.spec_protocol.specs.StandTogether.{Stands};
 ghost use Rattle.law_server.specs.CellsImage.{cells_image, tables_in_cells};
 ghost use Rattle.spec_protocol.specs.Serves.{Serves};
 
-/// For every grammar without statements that alter a table, and every hash, there is a server that reads and
-/// hashes so.
+/// For every grammar and every hash there is a server that reads and hashes so.
 pub fn there_is_such_a_server()
-    ensures { (h : List ℕ → List ℕ) (reads : Reading) → IsSteady reads → (v : Server) × Serves h reads v }
+    ensures { (h : List ℕ → List ℕ) (reads : Reading) → (v : Server) × Serves h reads v }
 {}
 
 /// Its blocks are hashed as the ledger of its journal says, and the images that it keeps have the bytes of

@@ -4,14 +4,13 @@ use Rattle.std.specs.Prelude.{None}
 use Rattle.spec_model.specs.Script.{Reading}
 use Rattle.spec_history.proofs.Real.{real, is_real}
 use Rattle.law_blocks.proofs.Staying.{hashing}
-use Rattle.spec_protocol.specs.Server.{IsSteady, Server}
+use Rattle.spec_protocol.specs.Server.{Server}
 use Rattle.server_board.specs.ServedDatabase.{ServedDatabase}
 
-some_server : (List ℕ → List ℕ) → (reads : Reading) → IsSteady reads → Server
+some_server : (List ℕ → List ℕ) → Reading → Server
 unfolding hashing
-some_server h reads steady = record {
+some_server h reads = record {
   reads = reads;
-  steady = steady;
   hash = h;
   hashing = hashing h reads;
   hashes = λ J b. refl;
@@ -21,4 +20,4 @@ some_server h reads steady = record {
 
 -- which reads nothing and hashes all to nothing
 pub some_database : ServedDatabase
-some_database = record { server = some_server (λ bytes. []) (λ text. None) (λ text stmt e. cc); database = []; size = 1 }
+some_database = record { server = some_server (λ bytes. []) (λ text. None); database = []; size = 1 }

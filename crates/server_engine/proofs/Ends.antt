@@ -49,7 +49,7 @@ use Rattle.server_engine.proofs.Midways.{found_is}
 use Rattle.server_engine.proofs.OneServer as one
 use Rattle.server_engine.proofs.OneServer.{not_over, quiet_state}
 use Rattle.server_engine.proofs.Pairs.{Behind, all_there, as_long, behind, both_last, each_last, each_there, near, same_seen, seen_at, seen_last, seen_of}
-use Rattle.server_visits.proofs.Servers.{some_server, statements_are_steady}
+use Rattle.server_visits.proofs.Servers.{some_server}
 use Rattle.server_engine.proofs.Turns.{stand_at_end}
 
 -- ---- the beginning
@@ -206,7 +206,7 @@ module _ {H : Type 0} (digest : H → List ℕ → List ℕ) (h : H) (a : CoreIn
 
   -- its cells stand together with its seats
   pub cells_stand : ((bytes : List ℕ) → length (digest h bytes) ≡ 32) → CellsStand c.cells.items
-  cells_stand sized = let v = some_server (digest h) statement_of statements_are_steady in let o = m.holds.served v.0 v.1 in record {
+  cells_stand sized = let v = some_server (digest h) statement_of in let o = m.holds.served v.0 v.1 in record {
     hash = digest h;
     sized = sized;
     v = v.0;
@@ -225,10 +225,10 @@ module _ {H : Type 0} (digest : H → List ℕ → List ℕ) (h : H) (a : CoreIn
 module _ {H : Type 0} (digest : H → List ℕ → List ℕ) (h : H) (a : CoreInput) (c : Core H) (m : Stands digest h c a) (ended : (j : ℕ) → j < length a.names → IsEnded c j)
     (l : LedgerCell) (hash : List ℕ) (there : get_elem? c.cells.items ledger_at ≡ some (record { cell = Ledger l; hash = hash })) (ids : l.next ≤ 2 ^ 63) where
   abbrev v : Server
-  v = (some_server (digest h) statement_of statements_are_steady).0
+  v = (some_server (digest h) statement_of).0
 
   serves : Serves (digest h) statement_of v
-  serves = (some_server (digest h) statement_of statements_are_steady).1
+  serves = (some_server (digest h) statement_of).1
 
   together_here : StandTogether v (cells_seen c.cells.items) ((m.holds.served v serves).stand.parent ∷ (m.holds.served v serves).states)
   together_here = one.together digest h (m.holds.served v serves)

@@ -35,7 +35,7 @@ use Rattle.server_engine.proofs.OneServer as one
 use Rattle.server_engine.proofs.OneServer.{it_sits}
 use Rattle.server_engine.proofs.Pairs.{Beside, beside, Seen, seen_at, seen_of, seen_set, both_set, each_set, each_there}
 use Rattle.server_engine.proofs.Pending.{one_more_at, fewer_at}
-use Rattle.server_visits.proofs.Servers.{some_server, statements_are_steady}
+use Rattle.server_visits.proofs.Servers.{some_server}
 use Rattle.server_engine.proofs.Texts.{text_more}
 
 -- the session with another seat
@@ -57,7 +57,7 @@ in_last (x ∷ xs) time = inr (in_last xs time)
 module _ {H : Type 0} (digest : H → List ℕ → List ℕ) (h : H) {cells : List KeptCell} {sessions : List (Session H)} {a : CoreInput} (o : Holds digest h cells sessions a) where
   -- what it comes to on some server
   pub somewhere : (v : Server) × Serves (digest h) statement_of v × OnServer digest h v a o.told (cells_seen cells) (seats_seen sessions)
-  somewhere = let v = some_server (digest h) statement_of statements_are_steady in (v.0, v.1, o.served v.0 v.1)
+  somewhere = let v = some_server (digest h) statement_of in (v.0, v.1, o.served v.0 v.1)
 
   pub cells_are : AreCells (cells_seen cells) (one.together digest h somewhere.2).stands.catalog (one.ledger digest h somewhere.2)
   cells_are = one.are_cells digest h somewhere.2
@@ -149,7 +149,7 @@ module _ {H : Type 0} (digest : H → List ℕ → List ℕ) (h : H) {cells : Li
 
       -- the cell that it needs lies among those that stand together
       pub among_holds : (c : KeptCell) (i : ℕ) → need_of y.seat ≡ need.Cell i → get_elem? cells i ≡ some c → Among digest y.seat c
-      among_holds c i needs here = let v = some_server (digest h) statement_of statements_are_steady in
+      among_holds c i needs here = let v = some_server (digest h) statement_of in
           one.among digest h (o.served v.0 v.1) j y.seat its_seat quiet its.y its.there v.1 (sits v.0 v.1) c i needs (seen_at (λ (x : KeptCell). x.cell) cells i c here) (each_there (Keeps (digest h)) cells o.keep i c here)
 
       module _ (c d : KeptCell) (i : ℕ) (needs : need_of y.seat ≡ need.Cell i) (here : get_elem? cells i ≡ some c) (below : pending_at (cells_seen cells) < a.size) (z : Seat H) (visits : Visits digest y.seat c d z) where
@@ -166,7 +166,7 @@ module _ {H : Type 0} (digest : H → List ℕ → List ℕ) (h : H) {cells : Li
         cells_then_are = seen_set (λ (x : KeptCell). x.cell) cells i d
 
         keeps_then : Keeps (digest h) d
-        keeps_then = let v = some_server (digest h) statement_of statements_are_steady in
+        keeps_then = let v = some_server (digest h) statement_of in
             one.still_keeps digest h (o.served v.0 v.1) j y.seat its_seat quiet its.y its.there v.1 (sits v.0 v.1) c d i needs there_now keeps_now below z visits
 
         -- it visits a cell
@@ -178,7 +178,7 @@ module _ {H : Type 0} (digest : H → List ℕ → List ℕ) (h : H) {cells : Li
 
         -- what is pending then is at most a full block
         pub within_then : pending_at (cells_seen cells_then) ≤ a.size
-        within_then = let v = some_server (digest h) statement_of statements_are_steady in
+        within_then = let v = some_server (digest h) statement_of in
             let m = one_more_at (cells_seen cells) i c.cell d.cell there_now (one.at_most_full digest h (o.served v.0 v.1) j y.seat its_seat quiet its.y its.there v.1 (sits v.0 v.1) c d i needs there_now keeps_now below z visits) in
             subst (λ (cs : List Cell). pending_at cs ≤ a.size) (sym cells_then_are) (omega (arith, m, below))
 
@@ -189,7 +189,7 @@ module _ {H : Type 0} (digest : H → List ℕ → List ℕ) (h : H) {cells : Li
       -- ---- all cells at once
 
       pub among_all_holds : need_of y.seat ≡ need.All → AmongAll digest y.seat cells
-      among_all_holds needs = let v = some_server (digest h) statement_of statements_are_steady in among_all digest h cells (o.served v.0 v.1) j y.seat its_seat quiet its.y its.there v.1 (sits v.0 v.1) needs
+      among_all_holds needs = let v = some_server (digest h) statement_of in among_all digest h cells (o.served v.0 v.1) j y.seat its_seat quiet its.y its.there v.1 (sits v.0 v.1) needs
 
       with_images : (z : Session H) (kept : Option KeptImage) → z.seat.name ≡ y.seat.name → z.entries ≡ y.entries → z.images ≡ y.images ++ images_kept kept → Shows z (told_with its.y [] (images_kept kept))
       with_images z kept name same images = record {

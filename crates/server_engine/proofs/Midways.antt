@@ -12,7 +12,7 @@ use Rattle.spec_protocol.proofs.Places.{at_set, set_again, set_else, set_here, s
 use Rattle.server_visits.specs.Full.{ClosesFull, ClosesOne}
 use Rattle.server_session.specs.KeptCell.{KeptCell, Keeps}
 use Rattle.server_session.specs.Needs.{need_of, point_need, visits_left}
-use Rattle.server_session.specs.ControlPoints.{IsBetween, IsBetweenAt, IsOver, IsOverAt, KeepsStatement, IsSamePhase}
+use Rattle.server_session.specs.ControlPoints.{IsBetween, IsOver, IsOverAt, KeepsStatement, IsSamePhase}
 use Rattle.server_session.specs.Steps.{Among, AmongAll, ComesOn, Visits, VisitsAll, images_kept}
 use Rattle.server_session.specs.SessionOutput.{pending_of}
 use Rattle.server_session.specs.declared.need.NextVisit.{NextVisit}
@@ -20,6 +20,7 @@ use Rattle.server_session.specs.declared.need.NextVisit.TheVariants as need
 use Rattle.server_session.specs.declared.seat.Seat.{Seat}
 use Rattle.server_session.specs.declared.stage.ControlPoint.{ControlPoint}
 use Rattle.server_session.specs.declared.stage.ControlPoint.TheVariants.{Between, Inside, Leaving, Over}
+use Rattle.server_session.proofs.Alone.{between_is}
 use Rattle.server_engine.specs.CoreInput.{CoreInput}
 use Rattle.server_engine.specs.IsMidway.{OthersInactive, IsMidway, IsBelow, IsWithin, ChangesSession, WentOn, size_found, width, visits_found, work, LessWork, NoMorePending}
 use Rattle.server_engine.specs.Standing.{cells_seen, seats_seen, pending_at, pending_found, IsInactive, Holds, Stands, Found}
@@ -32,12 +33,6 @@ use Rattle.server_engine.proofs.Pairs.{all_there, each_there, seen_at, seen_set}
 use Rattle.server_engine.proofs.Pending.{less_work}
 
 -- ---- points
-
-between_is : (p : ControlPoint) → IsBetweenAt p → p ≡ Between
-between_is Between b = refl
-between_is (Inside stage) b = absurd b
-between_is Leaving b = absurd b
-between_is Over b = absurd b
 
 -- between statements nothing is needed
 pub not_between : {H : Type 0} (y : Seat H) (n : NextVisit) → need_of y ≡ n → (need.Done ≡ n → ⊥) → IsBetween y → ⊥

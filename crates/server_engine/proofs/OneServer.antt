@@ -27,7 +27,7 @@ use Rattle.law_sequential.proofs.SessionsStand.{ShownAt, shown_at}
 use Rattle.server_visits.specs.Full.{ClosesOne}
 use Rattle.server_session.specs.KeptCell.{KeptCell, Keeps}
 use Rattle.server_session.specs.Needs.{need_of}
-use Rattle.server_session.specs.ControlPoints.{IsBetween, IsBetweenAt, IsOver, IsOverAt}
+use Rattle.server_session.specs.ControlPoints.{IsBetween, IsOver, IsOverAt}
 use Rattle.server_session.specs.Sits.{Sits, IsControlPoint, left_of, place_seen}
 use Rattle.server_session.specs.Steps.{Steps, Answers, Ends, Among, Visits, IsVisit, last_entries, end_of, entries_at}
 use Rattle.server_session.specs.SessionOutput.{size_of, pending_of}
@@ -35,18 +35,13 @@ use Rattle.server_session.specs.declared.need.NextVisit.TheVariants as need
 use Rattle.server_session.specs.declared.seat.Seat.{Seat}
 use Rattle.server_session.specs.declared.stage.ControlPoint.{ControlPoint}
 use Rattle.server_session.specs.declared.stage.ControlPoint.TheVariants.{Between, Inside, Leaving, Over}
+use Rattle.server_session.proofs.Alone.{between_is}
 use Rattle.server_engine.specs.CoreInput.{CoreInput, with_lines}
 use Rattle.server_engine.specs.Standing.{SitsOrIsOver, IsInactive, OnServer, pending_at, pending_found}
 use Rattle.server_engine.proofs.AnonymousActs.{plain_nameless, plain_phased, visit_phased, nameless, for_digest, one_more_pending, alone_nameless, adds_gains}
 use Rattle.server_engine.proofs.Pairs.{Beside, beside, behind, both_set}
 
 -- ---- seats
-
-between_is : (p : ControlPoint) → IsBetweenAt p → p ≡ Between
-between_is Between b = refl
-between_is (Inside stage) b = absurd b
-between_is Leaving b = absurd b
-between_is Over b = absurd b
 
 over_is : (p : ControlPoint) → IsOverAt p → p ≡ Over
 over_is Between b = absurd b

@@ -20,7 +20,7 @@ use Rattle.server_board.specs.Laws.{visits_keep}
 use Rattle.server_board.specs.ServedDatabase.{ServedDatabase, StandsOn}
 use Rattle.server_engine.specs.Standing.{pending_found}
 use Rattle.server_engine.proofs.Pairs.{seen_at}
-use Rattle.law_server.proofs.Servers.{some_server, statements_are_steady}
+use Rattle.law_server.proofs.Servers.{some_server}
 use Rattle.server_run.specs.Closing.{pending_there, ClosesThere, HasLedger, StandBeside, StillStand}
 use Rattle.server_run.proofs.ClosingPending.{kept_there, may_close}
 
@@ -37,7 +37,7 @@ some_taken c size any = by_case (nat_le c.block_size (pending_in c)) refl
 module _ (h : List ℕ → List ℕ) (c : LedgerCell) (size : 1 ≤ c.block_size) where
   fewer : 1 ≤ pending_in c → pending_in (closed_by h (next_block c) c) < pending_in c
   fewer any =
-      let v = some_server h statement_of statements_are_steady in
+      let v = some_server h statement_of in
       let left = subst (λ (g : List ℕ → List ℕ). pending_in (closed_by g (next_block c) c) ≡ pending_in c - next_block c) v.1.hash (pending_after v.0 (next_block c) c) in
       let taken = some_taken c size any in omega (arith, left, taken, any)
 

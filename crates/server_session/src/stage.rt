@@ -32,7 +32,7 @@ pub enum Stage {
     Issuing,
     /// SAVE IMAGE.
     Keeping,
-    /// It looks up or creates in the catalog.
+    /// It looks up, creates, alters or drops in the catalog.
     Looking,
     /// It passed its checks over this table, and changes or reads it. With true, its transaction had no lock
     /// in the catalog before.

@@ -28,8 +28,7 @@ use Rattle.format_lines.specs.Line.{Statement}
 use Rattle.format_lines.specs.Sessions.{sessions_of}
 use Rattle.spec_protocol.specs.Reordered.{NamesApart}
 use Rattle.spec_protocol.specs.Seats.{KeptImage}
-use Rattle.spec_protocol.specs.Server.{IsSteady, Server}
-use Rattle.law_server.proofs.Servers.{statements_are_steady}
+use Rattle.spec_protocol.specs.Server.{Server}
 use Rattle.spec_protocol.specs.Serves.{Serves}
 use Rattle.server_engine.proofs.SameNames.{names_apart}
 use Rattle.server_engine.specs.SessionOutput.{HasEnded, IsImageOf, RunAgrees}
@@ -56,7 +55,7 @@ use Rattle.server_step.proofs.OneList.{are_written}
 
 abbrev pub SequentialRunsAgree : Type 0
 SequentialRunsAgree = (h : List ℕ → List ℕ) (reads : Reading) (database : Text) (size : ℕ) (names : List Text) (lines : List InputLine) (moments : List ℕ) (X : List Transcript) (images : List (List KeptImage)) (J : List JournalItem) (G : List Digest)
-    → IsSteady reads → map (λ x. x.session) X ≡ names → NamesApart names → ((v : Server) → Serves h reads v → HasEnded v database size names lines moments X images J G)
+    → map (λ x. x.session) X ≡ names → NamesApart names → ((v : Server) → Serves h reads v → HasEnded v database size names lines moments X images J G)
     → RunAgrees h reads database size names lines X images J G
 
 abbrev pub JournalsAreLegal : Type 0
@@ -84,7 +83,7 @@ AllAreAccepted = (h : List ℕ → List ℕ) (database : Text) (size : ℕ) (nam
     → verdict_of h (map held G) (image_bytes (image_of h statement_of database J)) ≡ Yes
 
 abbrev pub IsServed : Type 0
-IsServed = (h : List ℕ → List ℕ) (reads : Reading) → IsSteady reads → (v : Server) × Serves h reads v
+IsServed = (h : List ℕ → List ℕ) (reads : Reading) → (v : Server) × Serves h reads v
 
 abbrev pub SessionsAreNamed : Type 0
 SessionsAreNamed = (ss : List Statement) → All (λ s. list_any (bytes_eq s.session) (sessions_of ss) ≡ true) ss
@@ -119,13 +118,13 @@ module _ {H : Type 0} (agree : SequentialRunsAgree) (legal : JournalsAreLegal) (
     J = p.journal.items
 
     abbrev v : Server
-    v = (served h statement_of statements_are_steady).0
+    v = (served h statement_of).0
 
     abbrev serves : Serves h statement_of v
-    serves = (served h statement_of statements_are_steady).1
+    serves = (served h statement_of).1
 
     they_agree : RunAgrees h statement_of database size names (lines_of statements) X images J p.digests
-    they_agree = agree h statement_of database size names (lines_of statements) x.times X images J p.digests statements_are_steady x.left.names (names_apart names (differ statements)) x.left.ended
+    they_agree = agree h statement_of database size names (lines_of statements) x.times X images J p.digests x.left.names (names_apart names (differ statements)) x.left.ended
 
     is_legal : IsLegalJournal statement_of (record { version = JOURNAL_VERSION; database = database; items = J })
     is_legal = subst (λ (reads : Reading). IsLegalJournal reads (record { version = JOURNAL_VERSION; database = database; items = J })) serves.reading

@@ -11,6 +11,7 @@ use Rattle.spec_history.specs.Inputs.{InputLine, texts_of_session, sessions_in}
 use Rattle.spec_history.specs.Lists.{Text, Each, At}
 use Rattle.spec_history.specs.StepOrder.{Row, entries_of, IsStatementOf, EndsOne, RowsInOrder}
 use Rattle.spec_history.specs.Transcripts.{EndLine, Entry, statement, end_of_session, Transcript, statements}
+use Rattle.spec_history.proofs.Trace.{each_append}
 use Rattle.spec_protocol.specs.Reordered.{NamesApart}
 use Rattle.format_transcript.specs.TranscriptText.{entry_text}
 use Rattle.server_result.specs.Joined.{joined, joined_each}
@@ -203,10 +204,6 @@ left_over : (es : List Entry) → EndIsLast es → statements es ≡ [] → (es 
 left_over [] last none = inl refl
 left_over (statement t r e ∷ es) last none = absurd cc
 left_over (end_of_session e ∷ es) last none = inr (e, ap (λ l. end_of_session e ∷ l) last)
-
-each_append : {A : Type 0} (P : A → Type 0) (xs ys : List A) → Each P xs → Each P ys → Each P (xs ++ ys)
-each_append P [] ys p q = q
-each_append P (x ∷ xs) ys p q = (p.0, each_append P xs ys p.1 q)
 
 module _ (X : List Transcript) where
   ends_of : (i : ℕ) (x : Transcript) → At X i x → (es : List Entry) → EndIsLast es → statements es ≡ [] → Each (EndsOne X) (map (λ e. (i, e)) es)

@@ -8,9 +8,10 @@ use Rattle.sql_types.specs.declared.reply.Reply.{Reply}
 use Rattle.sql_types.specs.declared.reply.Reply.TheVariants as reply
 use Rattle.sql_types.specs.declared.statement.Stmt.{Stmt}
 use Rattle.sql_types.specs.declared.statement.Stmt.TheVariants as st
+use Rattle.spec_model.specs.Alter.{Altered}
 use Rattle.spec_model.specs.Refusals.{Checked}
 use Rattle.server_session.specs.Cells.{CatalogCell}
-use Rattle.server_visit_catalog.specs.InCatalog.{got_stage, lacking_stage, refused_stage, Creates, GoesAgain, IndexFails, IsIndex, IsLookedUp, IsRefused, IsStopped, IsTable, KeepsLock, Looked, LooksUp, TableFails}
+use Rattle.server_visit_catalog.specs.InCatalog.{by_alter, by_drop, got_stage, lacking_stage, refused_stage, AlterFails, Alters, Creates, GoesAgain, IndexFails, IsAltered, IsIndex, IsLookedUp, IsRefused, IsStopped, IsTable, KeepsLock, Looked, LooksUp, TableFails}
 use Rattle.server_session.specs.ControlPoints.{IsBegunAt}
 use Rattle.server_session.specs.Stages.{done_stage}
 use Rattle.server_visit_catalog.specs.declared.got.LookupResult.{LookupResult}
@@ -56,6 +57,13 @@ module _ {H : Type 0} (digest : H → List ℕ → List ℕ) (r : Running H) (c 
       (λ (g : KeepsLock e r l q d stage). subst IsBehind (sym g.stage_is) (λ b. b))
       w.how
 
+  alters_behind : (meant : CatalogCell → Checked Altered) → Alters digest meant r c q d stage → IsBehind stage
+  alters_behind meant k = ⊎_elim
+      (λ (w : IsStopped digest mode.X r c q d stage). stopped_behind mode.X w)
+      (λ (w : Creates digest (AlterFails meant) (λ l p e at. IsAltered digest meant r l p e at) r c q d stage).
+      ⊎_elim (λ (f : (e : Refusal) × (e ≢ NoMemory → AlterFails meant w.locked e) × IsRefused digest e r w.locked q d stage). blocked_behind w.locked f.0 f.2) (λ (m : IsAltered digest meant r w.locked q d stage). subst IsBehind (sym m.2) (λ b. b)) w.how)
+      k
+
   pub looked_behind : (s : Stmt) → Looked digest s r c q d stage → IsBehind stage
   looked_behind (st.Create create) k = ⊎_elim
       (λ (w : IsStopped digest mode.X r c q d stage). stopped_behind mode.X w)
@@ -67,8 +75,8 @@ module _ {H : Type 0} (digest : H → List ℕ → List ℕ) (r : Running H) (c 
       (λ (w : Creates digest (IndexFails create) (λ l p e at. IsIndex digest create r l p e at) r c q d stage).
       ⊎_elim (λ (f : (e : Refusal) × (e ≢ NoMemory → IndexFails create w.locked e) × IsRefused digest e r w.locked q d stage). blocked_behind w.locked f.0 f.2) (λ (m : IsIndex digest create r w.locked q d stage). subst IsBehind (sym m.3) (λ b. b)) w.how)
       k
-  looked_behind (st.Alter altered) k = up_behind (st.Alter altered) k
-  looked_behind (st.Drop name) k = up_behind (st.Drop name) k
+  looked_behind (st.Alter alter) k = alters_behind (by_alter alter) k
+  looked_behind (st.Drop name) k = alters_behind (by_drop name) k
   looked_behind (st.Change row) k = up_behind (st.Change row) k
   looked_behind (st.Select s) k = up_behind (st.Select s) k
   looked_behind st.Begin k = up_behind st.Begin k

@@ -1,13 +1,15 @@
--- CREATE TABLE and CREATE INDEX that have their X in the catalog.
+-- Statements that create, alter or drop, and have their X in the catalog.
 use Rattle.std.proofs.Common.{◌≡◌, ◌≢◌, ◌⊎◌, ℕ, ◌+◌, ◌<◌, ◌≤◌, Bool, true, false, List, [], ◌∷◌, Option, Some, None, Ok, Err, length, map, refl, sym, ap, ◌∙◌, subst, ⊎_elim, arith}
 use Rattle.std.specs.Prelude.{not, vec_capacity, ◌&&◌, ◌||◌, nat_lt, nat_le}
 use Rattle.std.specs.List.{AllByRecursion, list_all}
 use Rattle.std.proofs.lemmas.List.{append-nil}
 use Rattle.sql_value.specs.declared.refusal.Refusal.{Refusal}
 use Rattle.sql_value.specs.declared.refusal.Refusal.TheVariants.{NoSuchTable, NameConflict, NoSuchColumn, ReadOnlyTable, LimitExceeded, NoMemory}
+use Rattle.sql_types.specs.declared.lock.Hold.{Hold}
 use Rattle.sql_types.specs.declared.lock.Mode.TheVariants as mode
 use Rattle.sql_types.specs.declared.reply.Reply.{Reply}
 use Rattle.sql_types.specs.declared.reply.Reply.TheVariants as reply
+use Rattle.sql_types.specs.declared.statement.Alter.{Alter}
 use Rattle.sql_types.specs.declared.statement.CreateIndex.{CreateIndex}
 use Rattle.sql_types.specs.declared.statement.CreateTable.{CreateTable}
 use Rattle.sql_types.specs.declared.statement.Stmt.{Stmt}
@@ -17,29 +19,31 @@ use Rattle.sql_types.specs.declared.table.Part.{Part}
 use Rattle.sql_types.specs.declared.table.Part.TheVariants.{Base, History, View, System}
 use Rattle.sql_types.specs.declared.table.TableDef.{TableDef}
 use Rattle.sql_types.specs.declared.version.Version.{Version}
+use Rattle.spec_model.specs.Alter.{Altered, alteration, table_drop}
 use Rattle.spec_model.specs.Catalog.{Defs, NamedPart, find_part}
 use Rattle.spec_model.specs.Checks.{is_base, is_declared, refused_if}
 use Rattle.spec_model.specs.Create.{create_check, index_check, index_check_in, index_def, is_long, with_index}
+use Rattle.spec_model.specs.Holds.{holds_after}
 use Rattle.spec_model.specs.Limits.{max_index_columns, max_indexes}
 use Rattle.spec_model.specs.Lists.{has_name, repeats}
 use Rattle.spec_model.specs.Locks.{whole}
 use Rattle.spec_model.specs.Refusals.{Checked, and_then, or_refused}
 use Rattle.spec_model.specs.Runs.{MadeBefore}
 use Rattle.spec_model.specs.LiveColumns.{live_columns}
-use Rattle.spec_model.specs.Reach.{alters}
 use Rattle.spec_model.specs.ScriptRequests.{runs}
 use Rattle.spec_model.specs.SystemTables.{columns_id}
-use Rattle.server_session.specs.CatalogVisits.{with_new_index, with_system_leaves, with_table, CreateRefused, CreatesIndex, CreatesTable, RefusesCreate}
+use Rattle.server_session.specs.CatalogVisits.{alters_in, with_altered, with_altered_leaves, with_holds, with_new_index, with_system_leaves, with_table, AltersTable, CreateRefused, CreatesIndex, CreatesTable, RefusesCreate}
 use Rattle.server_session.specs.Cells.{CatalogCell, Catalog, catalog_at, versions_at}
 use Rattle.server_session.specs.Doing.{done, events_from, grown, no_memory, stage_after, with_reply}
+use Rattle.server_session.specs.Lists.{Text}
 use Rattle.server_session.specs.Moves.{at_place, noting, sits, then_at, visiting, InOpenTransaction}
 use Rattle.server_session.specs.OpenScripts.{counted}
 use Rattle.server_session.specs.Seats.{OpenTransaction, SessionStatus, Tree, begun, inside, made, SeatState}
 use Rattle.server_session.specs.TablesAreSerial.{HasActed}
-use Rattle.server_session.specs.Visits.{create_index, create_table, refuse_create}
+use Rattle.server_session.specs.Visits.{alter_table, create_index, create_table, refuse_create}
 use Rattle.law_protocol_steps.proofs.CellsAfter.{were_here}
-use Rattle.store_catalog.specs.Calls.{HasIndex, HasTable, IndexMade, LocksTaken, MayCreate, TableMade}
-use Rattle.server_visit_catalog.specs.InCatalog.{stopped_stage, Creates, GoesAgain, HasMade, HasVisited, IndexFails, IsIndex, IsRefused, IsSame, IsTable, KeepsLock, MayLookFor, TableFails}
+use Rattle.store_catalog.specs.Calls.{HasAltered, HasIndex, HasTable, IndexMade, LocksTaken, MayCreate, TableAltered, TableMade}
+use Rattle.server_visit_catalog.specs.InCatalog.{stopped_stage, AlterFails, Creates, GoesAgain, HasMade, HasVisited, IndexFails, IsAltered, IsIndex, IsRefused, IsSame, IsTable, KeepsLock, MayLookFor, TableFails}
 use Rattle.server_session.specs.KeptCell.{catalog_seen}
 use Rattle.server_session.specs.Needs.{stage_visits}
 use Rattle.server_session.specs.Sits.{IsRunning, OfStmt, Sits, line_of}
@@ -95,6 +99,14 @@ own_index : (b : Bool) (create : CreateIndex) → runs b (st.Index create) ≡ t
 own_index false create e = refl
 own_index true create e = absurd cc
 
+own_alter : (b : Bool) (alter : Alter) → runs b (st.Alter alter) ≡ true → b ≡ false
+own_alter false alter e = refl
+own_alter true alter e = absurd cc
+
+own_drop : (b : Bool) (name : Text) → runs b (st.Drop name) ≡ true → b ≡ false
+own_drop false name e = refl
+own_drop true name e = absurd cc
+
 module _ {H : Type 0} (digest : H → List ℕ → List ℕ) (y : Seat H) (c : CatalogCell) (a : Among digest y (catalog_seen c)) (i : IsIn digest y c a Looking) where
   its_place : a.sits.x.place ≡ inside y.text begun
   its_place = (open_at_stage digest y c a Looking i).stands.place
@@ -112,41 +124,43 @@ module _ {H : Type 0} (digest : H → List ℕ → List ℕ) (y : Seat H) (c : C
     columns = made_before 2 (omega arith) c.columns (were_here a.cells catalog_at (Catalog c) (Catalog c) (is_out digest y c a) 2 refl);
   }
 
-  -- its server reads no statement that alters
-  stays_steady : alters i.stmt ≡ false
-  stays_steady = a.v.steady y.text i.stmt (open_at_stage digest y c a Looking i).stands.is
-
-  may_look_by : (s : Stmt) → runs i.o.explicit s ≡ true → alters s ≡ false → MayLookFor digest s i.r c
+  may_look_by : (s : Stmt) → runs i.o.explicit s ≡ true → MayLookFor digest s i.r c
   may_look_by s = by i.o.explicit s
     where
-      by : (b : Bool) (s : Stmt) → runs b s ≡ true → alters s ≡ false → MayLookFor digest s i.r c
-      by b (st.Create create) e steady = may_create
-      by b (st.Index create) e steady = may_create
-      by b (st.Alter x) e steady = absurd cc
-      by b (st.Drop name) e steady = absurd cc
-      by b (st.Change row) e steady = tt
-      by b (st.Select q) e steady = tt
-      by true st.Begin e steady = absurd cc
-      by false st.Begin e steady = absurd cc
-      by true st.Commit e steady = absurd cc
-      by false st.Commit e steady = absurd cc
-      by true (st.Save name) e steady = absurd cc
-      by false (st.Save name) e steady = absurd cc
-      by true (st.Rollback name) e steady = absurd cc
-      by false (st.Rollback name) e steady = absurd cc
-      by true st.Digest e steady = absurd cc
-      by false st.Digest e steady = absurd cc
-      by true st.Image e steady = absurd cc
-      by false st.Image e steady = absurd cc
+      by : (b : Bool) (s : Stmt) → runs b s ≡ true → MayLookFor digest s i.r c
+      by b (st.Create create) e = may_create
+      by b (st.Index create) e = may_create
+      by b (st.Alter alter) e = may_create
+      by b (st.Drop name) e = may_create
+      by b (st.Change row) e = tt
+      by b (st.Select q) e = tt
+      by true st.Begin e = absurd cc
+      by false st.Begin e = absurd cc
+      by true st.Commit e = absurd cc
+      by false st.Commit e = absurd cc
+      by true (st.Save name) e = absurd cc
+      by false (st.Save name) e = absurd cc
+      by true (st.Rollback name) e = absurd cc
+      by false (st.Rollback name) e = absurd cc
+      by true st.Digest e = absurd cc
+      by false st.Digest e = absurd cc
+      by true st.Image e = absurd cc
+      by false st.Image e = absurd cc
 
   pub may_look_for : MayLookFor digest i.stmt i.r c
-  may_look_for = may_look_by i.stmt (may_look digest y c a i).runs stays_steady
+  may_look_for = may_look_by i.stmt (may_look digest y c a i).runs
 
   pub own_by_table : (create : CreateTable) → i.stmt ≡ st.Create create → i.o.explicit ≡ false
   own_by_table create is = own_table i.o.explicit create (subst (λ (s : Stmt). runs i.o.explicit s ≡ true) is (may_look digest y c a i).runs)
 
   pub own_by_index : (create : CreateIndex) → i.stmt ≡ st.Index create → i.o.explicit ≡ false
   own_by_index create is = own_index i.o.explicit create (subst (λ (s : Stmt). runs i.o.explicit s ≡ true) is (may_look digest y c a i).runs)
+
+  pub own_by_alter : (alter : Alter) → i.stmt ≡ st.Alter alter → i.o.explicit ≡ false
+  own_by_alter alter is = own_alter i.o.explicit alter (subst (λ (s : Stmt). runs i.o.explicit s ≡ true) is (may_look digest y c a i).runs)
+
+  pub own_by_drop : (name : Text) → i.stmt ≡ st.Drop name → i.o.explicit ≡ false
+  own_by_drop name is = own_drop i.o.explicit name (subst (λ (s : Stmt). runs i.o.explicit s ≡ true) is (may_look digest y c a i).runs)
 
 -- ---- its visit
 
@@ -269,6 +283,28 @@ module _ {H : Type 0} (digest : H → List ℕ → List ℕ) (y : Seat H) (c d :
       ((i.unfixed, alone), subst (OfStmt sit.IsIndex) (sym (i.has_stmt ∙ ap (λ (s : Stmt). Some s) is)) tt, here))
       [] tt (adds_at a.s a.sits.x (Some (noted seq trees)) (inside y.text (made (with_index def m.index) false)) a.sits.role) tt)
 
+  -- a table is altered or dropped
+  alters : (meant : CatalogCell → Checked Altered) → alters_in c i.stmt ≡ Some (meant c) → meant l ≡ meant c → TableAltered digest l i.r.context (meant l) d q.context → HasMade i.r q
+      → IsVisit digest y (catalog_seen c) a (catalog_seen d) (then_at_stage (Replied reply.Made))
+  alters meant is same m kept =
+      let t : HasAltered digest a.h l m.a i.o d q.context = m.made a.h i.o i.run.context in
+      let seq : ℕ = i.o.seq + length m.a.first + length m.a.second in
+      let trees : List Tree = with_altered_leaves i.o.id i.o.seq m.a.first d i.o.trees in
+      let alters_now : AltersTable a.v c a.s d (done a.s at.stands (noted seq trees) reply.Made) = record {
+        o = i.o;
+        at = at;
+        at_begin = refl;
+        alone = alone;
+        free = k.free;
+        made_is = m.a;
+        passes = is ∙ ap (λ (x : Checked Altered). Some x) (sym same ∙ m.passes);
+        cell = t.cell ∙ ap (λ (x : CatalogCell). with_altered i.o.id i.o.seq m.a x.holds x) k.cell;
+        seat = refl;
+      } in
+      as_own reply.Made (visits_once digest y (catalog_seen c) a (catalog_seen d) (then_at_stage (done_stage i.o.explicit reply.Made)) (done a.s at.stands (noted seq trees) reply.Made) alter_table (λ out. alters_now) (λ out. plainly (tt, tt) refl)
+      (sits_replied reply.Made seq trees kept.0 (running_now digest y c a Looking i q seq trees t.context kept.1 kept.2 kept.3))
+      [] tt (adds_at a.s a.sits.x (Some (with_reply y.text reply.Made (noted seq trees))) (inside y.text (stage_after i.o.explicit reply.Made)) a.sits.role) tt)
+
 -- ---- how many visits are left
 
 module _ {H : Type 0} (digest : H → List ℕ → List ℕ) (r q : Running H) (l d : CatalogCell) (stage : Stage) where
@@ -284,6 +320,9 @@ module _ {H : Type 0} (digest : H → List ℕ → List ℕ) (r q : Running H) (
   pub index_fewer : (create : CreateIndex) → IsIndex digest create r l q d stage → stage_visits stage (Some q) < length r.visited.left + 6
   index_fewer create m = fewer_now r q stage m.2.3 (subst (λ (s : Stage). stage_visits s (Some q) ≤ length q.visited.left + 4) (sym m.3) (omega arith))
 
+  pub altered_fewer : (meant : CatalogCell → Checked Altered) → IsAltered digest meant r l q d stage → stage_visits stage (Some q) < length r.visited.left + 6
+  altered_fewer meant m = fewer_now r q stage m.1.3 (subst (λ (s : Stage). stage_visits s (Some q) ≤ length q.visited.left + 4) (sym m.2) (omega arith))
+
 -- ---- as the code has it
 
 module _ {H : Type 0} (digest : H → List ℕ → List ℕ) (y : Seat H) (c d : CatalogCell) (a : Among digest y (catalog_seen c)) (i : IsIn digest y c a Looking) (q : Running H) (stage : Stage) where
@@ -296,8 +335,8 @@ module _ {H : Type 0} (digest : H → List ℕ → List ℕ) (y : Seat H) (c d :
       by : (s : Stmt) → CreateRefused l s e → CreateRefused c s e
       by (st.Create create) f = ap (λ (x : CatalogCell). create_check x.defs create) (sym k.cell) ∙ f
       by (st.Index create) f = ap (λ (x : CatalogCell). index_check x.defs create) (sym k.cell) ∙ f
-      by (st.Alter x) f = absurd f
-      by (st.Drop name) f = absurd f
+      by (st.Alter alter) f = ap (λ (x : CatalogCell). alteration x.defs x.tables x.columns alter) (sym k.cell) ∙ f
+      by (st.Drop name) f = ap (λ (x : CatalogCell). table_drop x.defs x.tables x.columns name) (sym k.cell) ∙ f
       by (st.Change row) f = absurd f
       by (st.Select s) f = absurd f
       by st.Begin f = absurd f
@@ -331,4 +370,18 @@ module _ {H : Type 0} (digest : H → List ℕ → List ℕ) (y : Seat H) (c d :
       (λ ne. same_fails k.locked k.fresh f.0 t (subst (λ (s : Stmt). CreateRefused k.locked s f.0) (sym is) (f.1 ne))) f.2)
       (λ (m : IsIndex digest create i.r k.locked q d stage). subst (λ (s : Stage). IsVisit digest y (catalog_seen c) a (catalog_seen d) (then_seat y y.started y.text y.stmt (Some q) (Inside s))) (sym m.3)
       (makes_index digest y c d a i q own k.locked k.fresh t create m.0 is m.1 m.2))
+      k.how
+
+  -- what it makes doesn't depend on the locks
+  pub altered_so : (meant : CatalogCell → Checked Altered) → i.o.explicit ≡ false → ((x : CatalogCell) → alters_in x i.stmt ≡ Some (meant x)) → ((holds : List Hold) → meant (with_holds holds c) ≡ meant c)
+      → ((x : CatalogCell) (e : Refusal) → meant x ≡ Err e → CreateRefused x i.stmt e) → Creates digest (AlterFails meant) (λ l p e at. IsAltered digest meant i.r l p e at) i.r c q d stage → Then
+  altered_so meant own is same fails k =
+      let t : LocksTaken c i.o.id (whole mode.X ∷ []) k.fresh k.locked = k.takes a.h i.o i.run.context in
+      ⊎_elim
+      (λ (f : (e : Refusal) × (e ≢ NoMemory → AlterFails meant k.locked e) × IsRefused digest e i.r k.locked q d stage).
+      refused_create digest y c d a i q own k.locked k.fresh t f.0 stage
+      (λ ne. same_fails k.locked k.fresh f.0 t (fails k.locked f.0 (f.1 ne))) f.2)
+      (λ (m : IsAltered digest meant i.r k.locked q d stage). subst (λ (s : Stage). IsVisit digest y (catalog_seen c) a (catalog_seen d) (then_seat y y.started y.text y.stmt (Some q) (Inside s))) (sym m.2)
+      (alters digest y c d a i q own k.locked k.fresh t meant (is c)
+      (ap meant t.cell ∙ same (holds_after c.holds i.o.id (whole mode.X ∷ []))) m.0 m.1))
       k.how

@@ -7,15 +7,17 @@ use Rattle.sql_types.specs.declared.lock.Mode.TheVariants as mode
 use Rattle.sql_types.specs.declared.reply.Reply.TheVariants as reply
 use Rattle.sql_types.specs.declared.statement.Stmt.{Stmt}
 use Rattle.sql_types.specs.declared.statement.Stmt.TheVariants as st
+use Rattle.spec_model.specs.Alter.{Altered}
 use Rattle.spec_model.specs.Holds.{released}
 use Rattle.spec_model.specs.Locks.{catalog_request}
-use Rattle.server_session.specs.CatalogVisits.{with_holds}
+use Rattle.spec_model.specs.Refusals.{Checked}
+use Rattle.server_session.specs.CatalogVisits.{alters_in, with_holds, CreateRefused}
 use Rattle.server_session.specs.Cells.{CatalogCell}
 use Rattle.server_session.specs.Doing.{Stopped}
 use Rattle.server_session.specs.Seats.{OpenTransaction}
 use Rattle.server_session.specs.RequestsIn.{of_catalog}
 use Rattle.server_session.specs.Represents.{Represents}
-use Rattle.server_visit_catalog.specs.InCatalog.{stopped_stage, Creates, IndexFails, IsIndex, IsLookedUp, IsRefused, IsStopped, IsTable, Looked, LooksUp, MayLookFor, TableFails}
+use Rattle.server_visit_catalog.specs.InCatalog.{by_alter, by_drop, stopped_stage, AlterFails, Alters, Creates, IndexFails, IsAltered, IsIndex, IsLookedUp, IsRefused, IsStopped, IsTable, Looked, LooksUp, MayLookFor, TableFails}
 use Rattle.server_session.specs.KeptCell.{catalog_seen}
 use Rattle.server_session.specs.Needs.{stage_visits}
 use Rattle.server_session.specs.ControlPoints.{KeepsStatement}
@@ -28,7 +30,7 @@ use Rattle.server_session.specs.declared.stage.Stage.{Stage}
 use Rattle.server_session.specs.declared.stage.Stage.TheVariants.{GivingBack, Looking}
 use Rattle.server_session.proofs.Alone.{then_seat}
 use Rattle.server_visit_catalog.proofs.CatalogBehind.{looked_behind, IsBehind}
-use Rattle.server_visit_catalog.proofs.CatalogCreated.{index_fewer, index_so, may_look_for, own_by_index, own_by_table, refused_fewer, table_fewer, table_so}
+use Rattle.server_visit_catalog.proofs.CatalogCreated.{altered_fewer, altered_so, index_fewer, index_so, may_look_for, own_by_alter, own_by_drop, own_by_index, own_by_table, refused_fewer, table_fewer, table_so}
 use Rattle.server_visit_catalog.proofs.CatalogLooked.{looked_fewer, looked_up, shares}
 use Rattle.server_visit_catalog.proofs.CatalogSitting.{IsIn, comes_on, giving_is, looking_is, stays}
 use Rattle.server_visit_catalog.proofs.CatalogStopped.{gives_back, stopped_few, stops}
@@ -74,8 +76,18 @@ module _ {H : Type 0} (digest : H → List ℕ → List ℕ) (y : Seat H) (c d :
       (λ (w : IsStopped digest mode.X i.r c q d stage). stopped_so mode.X (ap (catalog_request i.o.explicit) is ∙ creates_requests i.o.explicit (own_by_index digest y c a i create is) (st.Index create) refl) w)
       (λ (w : Creates digest (IndexFails create) (λ l p e at. IsIndex digest create i.r l p e at) i.r c q d stage). index_so digest y c d a i q stage create is w)
       k
-  by_stmt (st.Alter altered) is k may = absurd may
-  by_stmt (st.Drop name) is k may = absurd may
+  by_stmt (st.Alter alter) is k may = ⊎_elim
+      (λ (w : IsStopped digest mode.X i.r c q d stage). stopped_so mode.X (ap (catalog_request i.o.explicit) is ∙ creates_requests i.o.explicit (own_by_alter digest y c a i alter is) (st.Alter alter) refl) w)
+      (λ (w : Creates digest (AlterFails (by_alter alter)) (λ l p e at. IsAltered digest (by_alter alter) i.r l p e at) i.r c q d stage).
+      altered_so digest y c d a i q stage (by_alter alter) (own_by_alter digest y c a i alter is) (λ x. ap (alters_in x) is) (λ holds. refl)
+      (λ x e f. subst (λ (s : Stmt). CreateRefused x s e) (sym is) f) w)
+      k
+  by_stmt (st.Drop name) is k may = ⊎_elim
+      (λ (w : IsStopped digest mode.X i.r c q d stage). stopped_so mode.X (ap (catalog_request i.o.explicit) is ∙ creates_requests i.o.explicit (own_by_drop digest y c a i name is) (st.Drop name) refl) w)
+      (λ (w : Creates digest (AlterFails (by_drop name)) (λ l p e at. IsAltered digest (by_drop name) i.r l p e at) i.r c q d stage).
+      altered_so digest y c d a i q stage (by_drop name) (own_by_drop digest y c a i name is) (λ x. ap (alters_in x) is) (λ holds. refl)
+      (λ x e f. subst (λ (s : Stmt). CreateRefused x s e) (sym is) f) w)
+      k
   by_stmt (st.Change row) is k may = looks_up (subst IsOfRows (sym is) tt) (subst (λ (s : Stmt). LooksUp digest s i.r c q d stage) (sym is) k)
   by_stmt (st.Select s) is k may = looks_up (subst IsOfRows (sym is) tt) (subst (λ (s : Stmt). LooksUp digest s i.r c q d stage) (sym is) k)
   by_stmt st.Begin is k may = absurd may
@@ -95,6 +107,13 @@ module _ {H : Type 0} (digest : H → List ℕ → List ℕ) (r : Running H) (c 
   up_fewer : (s : Stmt) → LooksUp digest s r c q d stage → stage_visits stage (Some q) < length r.visited.left + 6
   up_fewer s k = ⊎_elim (λ (w : IsStopped digest mode.S r c q d stage). stopped_fewer mode.S w) (λ (w : IsLookedUp digest s r c q d stage). looked_fewer digest s r c q d stage w) k
 
+  alters_fewer : (meant : CatalogCell → Checked Altered) → Alters digest meant r c q d stage → stage_visits stage (Some q) < length r.visited.left + 6
+  alters_fewer meant k = ⊎_elim
+      (λ (w : IsStopped digest mode.X r c q d stage). stopped_fewer mode.X w)
+      (λ (w : Creates digest (AlterFails meant) (λ l p e at. IsAltered digest meant r l p e at) r c q d stage).
+      ⊎_elim (λ (f : (e : Refusal) × (e ≢ NoMemory → AlterFails meant w.locked e) × IsRefused digest e r w.locked q d stage). refused_fewer digest r q w.locked d stage f.0 f.2) (λ (m : IsAltered digest meant r w.locked q d stage). altered_fewer digest r q w.locked d stage meant m) w.how)
+      k
+
   fewer_by : (s : Stmt) → Looked digest s r c q d stage → stage_visits stage (Some q) < length r.visited.left + 6
   fewer_by (st.Create create) k = ⊎_elim
       (λ (w : IsStopped digest mode.X r c q d stage). stopped_fewer mode.X w)
@@ -106,8 +125,8 @@ module _ {H : Type 0} (digest : H → List ℕ → List ℕ) (r : Running H) (c 
       (λ (w : Creates digest (IndexFails create) (λ l p e at. IsIndex digest create r l p e at) r c q d stage).
       ⊎_elim (λ (f : (e : Refusal) × (e ≢ NoMemory → IndexFails create w.locked e) × IsRefused digest e r w.locked q d stage). refused_fewer digest r q w.locked d stage f.0 f.2) (λ (m : IsIndex digest create r w.locked q d stage). index_fewer digest r q w.locked d stage create m) w.how)
       k
-  fewer_by (st.Alter altered) k = up_fewer (st.Alter altered) k
-  fewer_by (st.Drop name) k = up_fewer (st.Drop name) k
+  fewer_by (st.Alter alter) k = alters_fewer (by_alter alter) k
+  fewer_by (st.Drop name) k = alters_fewer (by_drop name) k
   fewer_by (st.Change row) k = up_fewer (st.Change row) k
   fewer_by (st.Select s) k = up_fewer (st.Select s) k
   fewer_by st.Begin k = up_fewer st.Begin k

@@ -5,6 +5,7 @@ use Rattle.sql_value.specs.declared.refusal.Refusal.TheVariants.{NoMemory}
 use Rattle.sql_types.specs.declared.lock.Mode.{Mode}
 use Rattle.sql_types.specs.declared.lock.Mode.TheVariants.{S, X}
 use Rattle.sql_types.specs.declared.reply.Reply.TheVariants as reply
+use Rattle.sql_types.specs.declared.statement.Alter.{Alter}
 use Rattle.sql_types.specs.declared.statement.CreateIndex.{CreateIndex}
 use Rattle.sql_types.specs.declared.statement.CreateTable.{CreateTable}
 use Rattle.sql_types.specs.declared.statement.Select.{Select}
@@ -13,6 +14,7 @@ use Rattle.sql_types.specs.declared.statement.Stmt.TheVariants as stmt
 use Rattle.sql_types.specs.declared.table.Part.{Part}
 use Rattle.sql_types.specs.declared.table.Part.TheVariants.{System}
 use Rattle.sql_types.specs.declared.table.TableDef.{TableDef}
+use Rattle.spec_model.specs.Alter.{Altered, alteration, table_drop}
 use Rattle.spec_model.specs.Catalog.{NamedPart, find_part}
 use Rattle.spec_model.specs.Create.{create_check, index_check}
 use Rattle.spec_model.specs.Effect.{query_rows}
@@ -31,7 +33,7 @@ use Rattle.server_session.specs.Moves.{put_in}
 use Rattle.server_session.specs.Seats.{OpenTransaction}
 use Rattle.server_session.specs.Represents.{Represents}
 use Rattle.server_session.specs.Context.{TxCtx}
-use Rattle.store_catalog.specs.Calls.{left, undone, IndexMade, LocksTaken, MayCreate, TableMade}
+use Rattle.store_catalog.specs.Calls.{left, undone, IndexMade, LocksTaken, MayCreate, TableAltered, TableMade}
 use Rattle.server_session.specs.Sits.{IsOfRows}
 use Rattle.server_session.specs.Stages.{done_stage}
 use Rattle.server_session.specs.VisitedCells.{VisitedCells}
@@ -217,13 +219,13 @@ pub record KeepsLock {H : Type 0} (e : Refusal) (r : Running H) (c : CatalogCell
   pub not_memory : e ≢ NoMemory
   pub stage_is : stage ≡ Replied (reply.Refused e)
 
--- a CREATE that has its X is refused
+-- a statement that creates, alters or drops, and has its X, is refused
 pub record IsRefused {H : Type 0} (digest : H → List ℕ → List ℕ) (e : Refusal) (r : Running H)
     (c : CatalogCell) (q : Running H) (d : CatalogCell) (stage : Stage) : Type 0 where
   pub same : IsSame digest r q
   pub how : GoesAgain digest r c q d stage ⊎ KeepsLock e r c q d stage
 
--- what comes of a CREATE once it has its X: `Checks` are its refusals, and `Makes` says what it made
+-- what comes of such a statement once it has its X: `Checks` are its refusals, and `Makes` says what it made
 pub record Creates {H : Type 0} (digest : H → List ℕ → List ℕ) (Checks : CatalogCell → Refusal → Type 0)
     (Makes : CatalogCell → Running H → CatalogCell → Stage → Type 0) (r : Running H) (c : CatalogCell)
     (q : Running H) (d : CatalogCell) (stage : Stage) : Type 0 where
@@ -264,11 +266,37 @@ abbrev pub MakesIndex : {H : Type 0} → (H → List ℕ → List ℕ) → Creat
 MakesIndex digest create r c q d stage = IsStopped digest X r c q d stage
     ⊎ Creates digest (IndexFails create) (λ l p e at. IsIndex digest create r l p e at) r c q d stage
 
+-- ---- altering and dropping
+
+-- what ALTER TABLE makes over a catalog
+abbrev pub by_alter : Alter → CatalogCell → Checked Altered
+by_alter alter c = alteration c.defs c.tables c.columns alter
+
+-- what DROP TABLE makes
+abbrev pub by_drop : Text → CatalogCell → Checked Altered
+by_drop name c = table_drop c.defs c.tables c.columns name
+
+abbrev pub AlterFails : (CatalogCell → Checked Altered) → CatalogCell → Refusal → Type 0
+AlterFails meant c e = meant c ≡ Err e
+
+abbrev pub IsAltered : {H : Type 0} → (H → List ℕ → List ℕ) → (CatalogCell → Checked Altered) → Running H
+    → CatalogCell → Running H → CatalogCell → Stage → Type 0
+IsAltered digest meant r c q d stage = TableAltered digest c r.context (meant c) d q.context × HasMade r q
+    × (stage ≡ Replied reply.Made)
+
+-- ALTER TABLE or DROP TABLE
+abbrev pub Alters : {H : Type 0} → (H → List ℕ → List ℕ) → (CatalogCell → Checked Altered) → Running H
+    → CatalogCell → Running H → CatalogCell → Stage → Type 0
+Alters digest meant r c q d stage = IsStopped digest X r c q d stage
+    ⊎ Creates digest (AlterFails meant) (λ l p e at. IsAltered digest meant r l p e at) r c q d stage
+
 -- ---- any table statement
 
 abbrev pub MayLookFor : {H : Type 0} → (H → List ℕ → List ℕ) → Stmt → Running H → CatalogCell → Type 0
 MayLookFor digest (stmt.Create create) r c = MayCreate digest r.context c
 MayLookFor digest (stmt.Index create) r c = MayCreate digest r.context c
+MayLookFor digest (stmt.Alter alter) r c = MayCreate digest r.context c
+MayLookFor digest (stmt.Drop name) r c = MayCreate digest r.context c
 MayLookFor digest (stmt.Change row) r c = Unit {0}
 MayLookFor digest (stmt.Select q) r c = Unit {0}
 MayLookFor digest _ r c = ⊥
@@ -277,4 +305,6 @@ abbrev pub Looked : {H : Type 0} → (H → List ℕ → List ℕ) → Stmt → 
     → CatalogCell → Stage → Type 0
 Looked digest (stmt.Create create) r c q d stage = MakesTable digest create r c q d stage
 Looked digest (stmt.Index create) r c q d stage = MakesIndex digest create r c q d stage
+Looked digest (stmt.Alter alter) r c q d stage = Alters digest (by_alter alter) r c q d stage
+Looked digest (stmt.Drop name) r c q d stage = Alters digest (by_drop name) r c q d stage
 Looked digest s r c q d stage = LooksUp digest s r c q d stage

@@ -13,8 +13,13 @@ use sql_value::Refusal;
 use std::alloc::Global;
 use store_catalog::CatalogCell;
 
-// A CREATE that its checks refuse keeps its X; where there is no memory, the X goes again.
-fn refuse<H: Hash32>(running: &mut Running<H>, catalog: &mut CatalogCell, e: Refusal) -> Stage
+/// A statement that creates, alters or drops keeps its X where its checks refuse it; where there is no memory, the X
+/// goes again.
+pub(crate) fn refuse<H: Hash32>(
+    running: &mut Running<H>,
+    catalog: &mut CatalogCell,
+    e: Refusal,
+) -> Stage
     requires { 0 < running.old.visited.room }
     ensures { IsRefused H.digest e running.old catalog.old running.new catalog.new result }
 {

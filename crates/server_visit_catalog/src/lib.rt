@@ -1,6 +1,8 @@
-//! Visits of the catalog's cell, in which tables are looked up, and tables and indexes are created.
+//! Visits of the catalog's cell, in which tables are looked up, created, altered and dropped, and indexes are
+//! created.
 #![tactic(auto)]
 
+mod catalog_alter;
 mod catalog_create;
 mod catalog_look;
 mod catalog_release;

@@ -8,6 +8,7 @@ ghost use Rattle.server_session.specs.Steps.{Among, ComesOn, Visits};
 ghost use Rattle.server_session.specs.declared.stage.ControlPoint.TheVariants.{Inside};
 ghost use Rattle.server_session.specs.declared.stage.Stage.TheVariants.{GivingBack, Looking};
 
+use crate::catalog_alter::{alter_table, drop_table};
 use crate::catalog_create::{make_index, make_table};
 use crate::catalog_look::{look_for_change, look_for_select, stopped};
 use crate::catalog_release::leave_catalog;
@@ -31,6 +32,8 @@ fn look_for<H: Hash32>(
     match stmt {
         Stmt::Create(create) => make_table(alloc, running, create, catalog),
         Stmt::Index(create) => make_index(alloc, running, create, catalog),
+        Stmt::Alter(alter) => alter_table(alloc, running, alter, catalog),
+        Stmt::Drop(name) => drop_table(alloc, running, name, catalog),
         Stmt::Change(row) => look_for_change(alloc, running, row, catalog),
         Stmt::Select(q) => look_for_select(alloc, running, q, catalog),
         _ => unreachable!(),
@@ -51,7 +54,7 @@ pub fn visit_catalog<H: Hash32>(seat: &mut Seat<H>, alloc: Global, catalog: &mut
     }
 }
 
-// The statement looks its table up, or creates one or an index.
+// The statement looks its table up, or creates, alters or drops it, or creates an index.
 fn look<H: Hash32>(seat: &mut Seat<H>, alloc: Global, catalog: &mut CatalogCell)
     requires among { Among H.digest seat.old (catalog_seen catalog.old) }
     requires here { seat.old.point ≡ Inside Looking }

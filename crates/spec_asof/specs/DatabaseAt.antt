@@ -1,22 +1,18 @@
 -- The database behind its first transactions, by an image that was made later.
-use Rattle.std.specs.Prelude.{ℕ, pos, ◌==◌, not, Bool, if◌then◌else◌, List, [], ◌∷◌, ◌++◌, map, take, length, Option, Some, None}
-use Rattle.std.specs.List.{filter, list_any}
-use Rattle.sql_value.specs.declared.column.ColumnDef.{ColumnDef}
+use Rattle.std.specs.Prelude.{ℕ, Bool, if◌then◌else◌, List, [], ◌∷◌, ◌++◌, map, take, length, Option, Some, None}
+use Rattle.std.specs.List.{filter}
 use Rattle.sql_types.specs.declared.entry.TxEntry.{TxEntry}
 use Rattle.sql_types.specs.declared.image.Image.{Image}
 use Rattle.sql_types.specs.declared.image.TableRows.{TableRows}
-use Rattle.sql_types.specs.declared.table.IndexDef.{IndexDef}
 use Rattle.sql_types.specs.declared.table.TableDef.{TableDef}
 use Rattle.sql_types.specs.declared.version.Table.{Table}
 use Rattle.sql_types.specs.declared.version.Version.{Version}
 use Rattle.spec_model.specs.Catalog.{Defs, Tables}
-use Rattle.spec_model.specs.Keys.{same_key}
-use Rattle.spec_model.specs.Lists.{numbered, sorted}
+use Rattle.spec_model.specs.Lists.{is_among, sorted}
 use Rattle.spec_model.specs.Rows.{EventId, Row, start_cmp, values_of}
-use Rattle.spec_model.specs.SystemTables.{tables_def, columns_def, column_row, index_row}
+use Rattle.spec_model.specs.SystemTables.{tables_def, columns_def}
 use Rattle.law_catalog_rows.specs.Differs.{is_encoded}
-use Rattle.law_catalog_rows.specs.Encoded.{about}
-use Rattle.law_catalog_rows.specs.IsEncodableDef.{is_among}
+use Rattle.spec_asof.specs.DefTold.{def_told}
 
 -- ---- versions, where `has` says which transactions count
 
@@ -36,37 +32,6 @@ left_of has versions = map (with_end_at has) (filter (λ v. has v.start.0) versi
 unfoldable pub versions_at : (ℕ → Bool) → TableRows → List Version
 versions_at has rows = sorted start_cmp (left_of has (rows.base ++ rows.history))
 
--- ---- definitions, by rows of the second table of the system
-
-abbrev pub has_row : List Row → Row → Bool
-has_row rows row = list_any (same_key row) rows
-
--- of some columns those that have their row
-abbrev pub columns_told : List Row → ℕ → List ColumnDef → List ColumnDef
-columns_told rows id columns =
-    map (λ c. c.1) (filter (λ c. has_row rows (column_row id c)) (numbered 1 columns))
-
--- of an index, which is number g of its table, the parts that have their row
-abbrev pub index_told : List Row → ℕ → ℕ × IndexDef → IndexDef
-index_told rows id g =
-    record {
-      name = g.1.name;
-      ordinals = map (λ p. p.1) (filter (λ p. has_row rows (index_row id g.0 g.1.name p)) (numbered 1 g.1.ordinals));
-    }
-
--- of some indexes those of which some part has its row
-abbrev pub indexes_told : List Row → ℕ → List IndexDef → List IndexDef
-indexes_told rows id indexes =
-    filter (λ i. not (length i.ordinals == 0)) (map (index_told rows id) (numbered 1 indexes))
-
--- a definition with the columns, the indexes and the parts of indexes that the rows about its table tell so far
-unfoldable pub def_told : List Row → TableDef → TableDef
-def_told second def =
-    record def {
-      columns = columns_told (about (pos def.id) second) def.id def.columns;
-      indexes = indexes_told (about (pos def.id) second) def.id def.indexes;
-    }
-
 -- ---- tables
 
 -- a version with as many values as there are columns
@@ -81,8 +46,8 @@ table_at has def rows =
 -- system spell, as far as they tell it; rows that break a rule so far spell none
 abbrev pub users_at : (ℕ → Bool) → List Row → List Row → Defs → List TableRows → Tables
 users_at has first second (def ∷ defs) (rows ∷ more) =
-    if is_encoded first second [] (def_told second def)
-    then table_at has (def_told second def) rows ∷ users_at has first second defs more
+    if is_encoded first second [] (def_told first second def)
+    then table_at has (def_told first second def) rows ∷ users_at has first second defs more
     else users_at has first second defs more
 users_at has first second _ _ = []
 

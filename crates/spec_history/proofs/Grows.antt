@@ -47,7 +47,7 @@ in_blocks_stay (suc n) [] K h = absurd (omega arith)
 in_blocks_stay (suc n) (Tx id session time explicit script ∷ is) K h = in_blocks_stay (suc n) is K h
 in_blocks_stay (suc n) (Close k ∷ is) K h = let e = in_blocks_stay n is K (omega arith) in omega arith
 
-times_append : (J K : List JournalItem) → times (J ++ K) ≡ times J ++ times K
+pub times_append : (J K : List JournalItem) → times (J ++ K) ≡ times J ++ times K
 times_append [] K = refl
 times_append (Tx id session time explicit script ∷ is) K = ap (λ (l : List ℕ). time ∷ l) (times_append is K)
 times_append (Close k ∷ is) K = times_append is K

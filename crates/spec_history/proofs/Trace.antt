@@ -1,9 +1,9 @@
 -- What holds along a history.
 use Rattle.std.proofs.Common.{◌≡◌, ℕ, ◌+◌, ◌<◌, ◌≤◌, Bool, true, false, List, [], ◌∷◌, ◌++◌, Option, ap, arith}
 use Rattle.std.specs.Prelude.{if◌then◌else◌, ◌==◌}
-use Rattle.sql_types.specs.declared.journal.JournalItem.{JournalItem}
-use Rattle.sql_types.specs.declared.journal.JournalItem.TheVariants.{Tx, Close}
+use Rattle.sql_types.specs.declared.journal.JournalItem.TheVariants.{Close}
 use Rattle.spec_model.specs.Journals.{tx_count}
+pub use Rattle.law_frame.proofs.LegalRules.{count_append}
 use Rattle.spec_history.specs.Lists.{Text, Each}
 use Rattle.spec_history.specs.Meaning.{Meaning}
 use Rattle.spec_history.specs.Facts.{Shows}
@@ -21,11 +21,6 @@ each_append P (x ∷ xs) ys h k = (h.0, each_append P xs ys h.1 k)
 pub each_weaker : {A : Type 0} (P Q : A → Type 0) → ((x : A) → P x → Q x) → (xs : List A) → Each P xs → Each Q xs
 each_weaker P Q f [] h = tt
 each_weaker P Q f (x ∷ xs) h = (f x h.0, each_weaker P Q f xs h.1)
-
-pub count_append : (is js : List JournalItem) → tx_count (is ++ js) ≡ tx_count is + tx_count js
-count_append [] js = omega arith
-count_append (Tx id session time explicit script ∷ is) js = omega (arith, count_append is js)
-count_append (Close k ∷ is) js = count_append is js
 
 pub one_more : (P : SessionAct → Type 0) (b : Bool) (a : SessionAct) (xs : List SessionAct) → P a → Each P xs → Each P (if b then a ∷ xs else xs)
 one_more P true a xs p h = (p, h)

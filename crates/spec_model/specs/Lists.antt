@@ -1,5 +1,5 @@
 -- Words on lists: sorting, going through one item after another until one is refused, names, numbers.
-use Rattle.std.specs.Prelude.{ℕ, ◌+◌, ◌==◌, ◌||◌, not, max, Bool, false, if◌then◌else◌, List, [], ◌∷◌, map, Option, Some, None, Ok}
+use Rattle.std.specs.Prelude.{ℕ, ◌+◌, ◌==◌, ◌&&◌, ◌||◌, nat_lt, nat_le, not, max, Bool, true, false, if◌then◌else◌, List, [], ◌∷◌, map, Option, Some, None, Ok}
 use Rattle.std.specs.List.{list_any, filter}
 use Rattle.std.specs.Str.{bytes_eq}
 use Rattle.std.specs.declared.cmp.Ordering.{Ordering}
@@ -83,3 +83,8 @@ without (n ∷ ns) xs = map (λ p. p.1) (filter (λ p. not (is_among (n ∷ ns) 
 abbrev pub greatest : List ℕ → ℕ
 greatest [] = 0
 greatest (n ∷ ns) = max n (greatest ns)
+
+-- the numbers are above this one, rise strictly, and none is above the limit
+abbrev pub rise_within : ℕ → ℕ → List ℕ → Bool
+rise_within last limit [] = true
+rise_within last limit (n ∷ ns) = nat_lt last n && nat_le n limit && rise_within n limit ns

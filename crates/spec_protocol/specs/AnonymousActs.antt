@@ -19,7 +19,7 @@ use Rattle.spec_protocol.specs.AllowedVisit.{AllowedVisit}
 use Rattle.spec_protocol.specs.Seats.{SeatState}
 use Rattle.spec_protocol.specs.Steps.{Step, Steps}
 use Rattle.spec_protocol.specs.Steps as step
-use Rattle.spec_protocol.specs.Visits.{Visit, assign_id, look, read_system, create_table, create_index, refuse_create, stop_in_catalog, change, refuse_change, read, stop_in_table, commit, read_point, close, issue, lack_block, keep, Happens}
+use Rattle.spec_protocol.specs.Visits.{Visit, assign_id, look, read_system, create_table, create_index, alter_table, refuse_create, stop_in_catalog, change, refuse_change, read, stop_in_table, commit, read_point, close, issue, lack_block, keep, Happens}
 
 -- an act of a session, or the closing of a block
 pub data AnonymousAct : Type 0 where
@@ -47,6 +47,7 @@ visit_acts v out read_system (Catalog c) s (Catalog d) t w = looks w.at.stands.t
     (rows_reply (query_rows w.q (w.def, System) (versions_in w.def.id (Catalog c))))
 visit_acts v out create_table (Catalog c) s (Catalog d) t w = looks w.at.stands.text false ∷ []
 visit_acts v out create_index (Catalog c) s (Catalog d) t w = looks w.at.stands.text false ∷ []
+visit_acts v out alter_table (Catalog c) s (Catalog d) t w = looks w.at.stands.text false ∷ []
 visit_acts v out refuse_create (Catalog c) s (Catalog d) t w = looks w.at.stands.text false ∷ []
 visit_acts v out stop_in_catalog (Catalog c) s (Catalog d) t w = stopped_acts w.0.stopped w.0.at.stands.text
     (failed_in v.meaning (Some w.0.o) w.0.at.stands.text)

@@ -1,5 +1,6 @@
--- Visits of the catalog's cell: a name is looked up, a table or an index is created, a lock is given back.
-use Rattle.std.specs.Prelude.{ℕ, ◌≡◌, ◌==◌, ◌+◌, ◌++◌, false, if◌then◌else◌, List, [], ◌∷◌, map, length, Some, None, Ok, Err, not}
+-- Visits of the catalog's cell: a name is looked up, a table or an index is created, a table is altered or dropped, a
+-- lock is given back.
+use Rattle.std.specs.Prelude.{ℕ, ◌≡◌, ◌==◌, ◌+◌, ◌++◌, false, if◌then◌else◌, List, [], ◌∷◌, map, length, Option, Some, None, Ok, Err, not}
 use Rattle.sql_value.specs.declared.refusal.Refusal.{Refusal}
 use Rattle.sql_types.specs.declared.lock.Mode.TheVariants.{S, X}
 use Rattle.sql_types.specs.declared.reply.Reply.{Reply}
@@ -12,10 +13,12 @@ use Rattle.sql_types.specs.declared.statement.Select.{Select}
 use Rattle.sql_types.specs.declared.table.Part.TheVariants.{System}
 use Rattle.sql_types.specs.declared.table.TableDef.{TableDef}
 use Rattle.sql_types.specs.declared.table.IndexDef.{IndexDef}
-use Rattle.spec_model.specs.Changes.{changed_all}
+use Rattle.spec_model.specs.Alter.{Altered, alteration, table_drop}
+use Rattle.spec_model.specs.Changes.{Change, changed_all}
 use Rattle.spec_model.specs.Catalog.{find_part}
 use Rattle.spec_model.specs.Locks.{whole, catalog_request}
 use Rattle.spec_model.specs.Query.{query_check}
+use Rattle.spec_model.specs.Refusals.{Checked}
 use Rattle.spec_model.specs.SystemTables.{tables_id, columns_id, column_rows}
 use Rattle.spec_model.specs.Create.{create_check, index_check, with_index}
 use Rattle.spec_model.specs.Effect.{query_rows, table_start, column_starts, index_starts}
@@ -138,10 +141,51 @@ pub record CreatesIndex (v : Server) (c : CatalogCell) (s : SeatState) (d : Cata
       (grown columns_id (events_from o.id o.seq columns_id d.columns) o.trees) (visiting catalog_at o)))
       (made (with_index def index) false)
 
--- the refusal of a CREATE, whose X stays
+-- ---- altering and dropping
+
+-- what ALTER TABLE and DROP TABLE make over the catalog; other statements alter no table
+abbrev pub alters_in : CatalogCell → Stmt → Option (Checked Altered)
+alters_in c (stmt.Alter a) = Some (alteration c.defs c.tables c.columns a)
+alters_in c (stmt.Drop name) = Some (table_drop c.defs c.tables c.columns name)
+alters_in c _ = None
+
+-- the rows that say so, and the definition in the place of its table's
+abbrev pub with_altered : ℕ → ℕ → Altered → List Hold → CatalogCell → CatalogCell
+with_altered tx seq a holds c =
+    record {
+      defs = replaced_def a.def c.defs;
+      creator = Some (record { tx = tx; before = c.defs });
+      tables = changed_all tx seq a.first c.tables;
+      columns = changed_all tx (seq + length a.first) a.second c.columns;
+      holds = holds;
+    }
+
+-- the trees with the new events of that table of the system which has some: of the second where these changes of the
+-- first are none
+abbrev pub with_altered_leaves : ℕ → ℕ → List Change → CatalogCell → List Tree → List Tree
+with_altered_leaves tx seq [] c trees = grown columns_id (events_from tx seq columns_id c.columns) trees
+with_altered_leaves tx seq (x ∷ xs) c trees = grown tables_id (events_from tx seq tables_id c.tables) trees
+
+-- it takes X; a table is altered or dropped, and its own cell is left as it is
+pub record AltersTable (v : Server) (c : CatalogCell) (s : SeatState) (d : CatalogCell)
+    (t : SeatState) : Type 0 where
+  pub o : OpenTransaction
+  pub at : InOpenTransaction v s o
+  pub at_begin : at.stands.stage ≡ begun
+  pub alone : o.explicit ≡ false
+  pub free : first_conflict c.holds o.id (whole X ∷ []) ≡ None
+  pub made_is : Altered
+  pub passes : alters_in c at.stands.stmt ≡ Some (Ok made_is)
+  pub cell : d ≡ with_altered o.id o.seq made_is (holds_after c.holds o.id (whole X ∷ [])) c
+  pub seat : t ≡ done s at.stands (noting (o.seq + length made_is.first + length made_is.second)
+      (with_altered_leaves o.id o.seq made_is.first d o.trees) (visiting catalog_at o)) reply.Made
+
+-- the refusal of a statement that creates, alters or drops, whose X stays
 abbrev pub CreateRefused : CatalogCell → Stmt → Refusal → Type 0
 CreateRefused c (stmt.Create create) e = create_check c.defs create ≡ Err e
 CreateRefused c (stmt.Index create) e = index_check c.defs create ≡ Err e
+CreateRefused c (stmt.Alter a) e = alteration c.defs c.tables c.columns a ≡ Err e
+CreateRefused c (stmt.Drop name) e = table_drop c.defs c.tables c.columns name ≡ Err e
 CreateRefused c _ e = ⊥
 
 pub record RefusesCreate (v : Server) (c : CatalogCell) (s : SeatState) (d : CatalogCell)

@@ -1,8 +1,6 @@
 -- What is taken as given of a server: how texts are read, and how bytes are hashed.
-use Rattle.std.specs.Prelude.{ℕ, ◌≡◌, false, List, Some}
+use Rattle.std.specs.Prelude.{ℕ, ◌≡◌, List}
 use Rattle.sql_types.specs.declared.journal.JournalItem.{JournalItem}
-use Rattle.sql_types.specs.declared.statement.Stmt.{Stmt}
-use Rattle.spec_model.specs.Reach.{alters}
 use Rattle.spec_model.specs.Script.{Reading}
 use Rattle.spec_history.specs.Lists.{Text}
 use Rattle.spec_history.specs.Meaning.{Meaning}
@@ -11,15 +9,9 @@ use Rattle.law_blocks.specs.Ledger.{block_hash}
 use Rattle.format_image.specs.Image.{image_of}
 use Rattle.format_image.specs.ImageBytes.{image_bytes}
 
--- no text is read as a statement that alters a table or drops it
-abbrev pub IsSteady : Reading → Type 0
-IsSteady reads = (text : Text) (stmt : Stmt) → reads text ≡ Some stmt → alters stmt ≡ false
-
 pub record Server : Type 0 where
   -- the statement that a text is, if it is one
   pub reads : Reading
-  -- tables stay as they were created
-  pub steady : IsSteady reads
   -- the hash of bytes
   pub hash : Text → Text
   -- the hash of each block of a journal: that of the ledger of the journal

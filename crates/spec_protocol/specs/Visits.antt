@@ -4,7 +4,7 @@ use Rattle.spec_protocol.specs.Server.{Server}
 use Rattle.spec_protocol.specs.Cells.{Cell, Catalog, Ledger, Rows}
 use Rattle.spec_protocol.specs.Seats.{SeatState}
 use Rattle.spec_protocol.specs.LedgerVisits.{AssignsId, CommitsNow, ReadsPoint, Closes, Issues, LacksBlock}
-use Rattle.spec_protocol.specs.CatalogVisits.{Looks, ReadsSystem, CreatesTable, CreatesIndex, RefusesCreate, StopsInCatalog, ReleasesCatalogLock}
+use Rattle.spec_protocol.specs.CatalogVisits.{Looks, ReadsSystem, CreatesTable, CreatesIndex, AltersTable, RefusesCreate, StopsInCatalog, ReleasesCatalogLock}
 use Rattle.spec_protocol.specs.TableVisits.{ChangesRows, RefusesRows, ReadsRows, StopsInTable, AddsIndex}
 use Rattle.spec_protocol.specs.UndoVisits.{UndoesTo, ReleasesTable, ReleasesCatalog}
 use Rattle.spec_protocol.specs.ImageVisits.{KeepsImage}
@@ -12,11 +12,12 @@ use Rattle.spec_protocol.specs.ImageVisits.{KeepsImage}
 pub data Visit : Type 0 where
   -- draw an id, for BEGIN or for a transaction of its own
   assign_id : (explicit : Bool) → Visit
-  -- look up or create in the catalog
+  -- look up, create or alter in the catalog
   look : Visit
   read_system : Visit
   create_table : Visit
   create_index : Visit
+  alter_table : Visit
   refuse_create : Visit
   stop_in_catalog : Visit
   -- change, read or index a table
@@ -52,6 +53,7 @@ Happens v out look (Catalog c) s (Catalog d) t = Looks v c s d t
 Happens v out read_system (Catalog c) s (Catalog d) t = ReadsSystem v c s d t
 Happens v out create_table (Catalog c) s (Catalog d) t = CreatesTable v c s d t
 Happens v out create_index (Catalog c) s (Catalog d) t = CreatesIndex v c s d t
+Happens v out alter_table (Catalog c) s (Catalog d) t = AltersTable v c s d t
 Happens v out refuse_create (Catalog c) s (Catalog d) t = RefusesCreate v c s d t
 Happens v out stop_in_catalog (Catalog c) s (Catalog d) t = StopsInCatalog v c s t × (d ≡ c)
 Happens v out change (Rows c) s (Rows d) t = ChangesRows v c s d t

@@ -39,11 +39,11 @@ use Rattle.spec_verify.proofs.SystemRows.{Scaled, stored_scaled, table_scaled, i
 use Rattle.spec_verify.proofs.ToldTables.{definitions_told}
 use Rattle.spec_verify.proofs.ToldVersions.{versions_told}
 
-all_front : {A : Type 0} (P : A → Type 0) (xs ys : List A) → AllByRecursion P (xs ++ ys) → AllByRecursion P xs
+pub all_front : {A : Type 0} (P : A → Type 0) (xs ys : List A) → AllByRecursion P (xs ++ ys) → AllByRecursion P xs
 all_front P [] ys h = tt
 all_front P (x ∷ xs) ys h = (h.0, all_front P xs ys h.1)
 
-all_rest : {A : Type 0} (P : A → Type 0) (xs ys : List A) → AllByRecursion P (xs ++ ys) → AllByRecursion P ys
+pub all_rest : {A : Type 0} (P : A → Type 0) (xs ys : List A) → AllByRecursion P (xs ++ ys) → AllByRecursion P ys
 all_rest P [] ys h = h
 all_rest P (x ∷ xs) ys h = all_rest P xs ys h.1
 

@@ -35,7 +35,7 @@ Scaled [] [] = Unit {0}
 Scaled (c ∷ cs) (v ∷ vs) = (AtScale c.ty v × HasScale v) × Scaled cs vs
 Scaled _ _ = ⊥
 
-then_equal : (r s : Ordering) → ordering_then r s ≡ Equal → (r ≡ Equal) × (s ≡ Equal)
+pub then_equal : (r s : Ordering) → ordering_then r s ≡ Equal → (r ≡ Equal) × (s ≡ Equal)
 then_equal Less s e = cc
 then_equal Equal s e = (refl, e)
 then_equal Greater s e = cc

@@ -29,7 +29,7 @@ use Rattle.law_frame.proofs.Alls.{all_weaker}
 use Rattle.law_frame.proofs.Checked.{Led, led}
 use Rattle.law_frame.proofs.Definitions.{same_defs}
 use Rattle.law_frame.proofs.NamedPart.{was_found}
-use Rattle.law_frame.proofs.ChangeSets.{in_one_table, length-in_table}
+use Rattle.law_frame.proofs.ChangeSets.{in_one_table, length-in_table, length-numbered}
 use Rattle.law_frame.proofs.Sounds.{sound_all}
 use Rattle.law_journal.proofs.DefLists.{IsOnly}
 
@@ -149,10 +149,6 @@ index_in_place index def [] only = refl
 index_in_place index def (t ∷ ts) only = rw (in_its_place index def (t.def.id == def.id) t refl only.0, index_in_place index def ts only.1) refl
 
 -- ---- what the statements come to
-
-length-numbered : {A : Type 0} (n : ℕ) (xs : List A) → length (numbered n xs) ≡ length xs
-length-numbered n [] = refl
-length-numbered n (x ∷ xs) = ap suc (length-numbered (n + 1) xs)
 
 length-starts : (rows : List Row) → length (column_starts rows) ≡ length rows
 length-starts rows = length-map rows _

@@ -6,7 +6,7 @@ use sql_value::{Items, Name, Text, TxId};
 pub type Script = Items<(Text, Text)>;
 
 /// The version of the journal of a running server.
-pub const JOURNAL_VERSION: u8 = 1;
+pub const JOURNAL_VERSION: u8 = 2;
 
 /// The greatest number of transactions in a block.
 pub const MAX_BLOCK: u32 = 100_000;

@@ -18,7 +18,7 @@ pub enum Refusal {
     NoSuchTable,
     /// E03: a name that another has, that is given twice, or that is reserved.
     NameConflict,
-    /// E04: there is no such column.
+    /// E04: there is no such column, or none that wasn't dropped where one is to be written, indexed or dropped.
     NoSuchColumn,
     /// E05: classes of values that do not agree, a condition that is no truth, or a value that the column does not take.
     TypeMismatch,
@@ -32,9 +32,9 @@ pub enum Refusal {
     ValueTooLong,
     /// E10: UPDATE or DELETE of an append-only table.
     AppendOnlyTable,
-    /// E11: a history, a view or a system table is to be changed or indexed.
+    /// E11: a history, a view, a system table or a dropped table is to be changed, indexed, altered or dropped.
     ReadOnlyTable,
-    /// E12: SET names a column of the key.
+    /// E12: SET or DROP COLUMN names a column of the key.
     KeyNotUpdatable,
     /// E13: COMMIT, ROLLBACK or SAVE TRANSACTION outside a transaction.
     NoTransaction,
@@ -44,7 +44,7 @@ pub enum Refusal {
     NoSuchSavepoint,
     /// E16: a limit is passed.
     LimitExceeded,
-    /// E17: a statement that no transaction may hold: CREATE, SAVE IMAGE or one about digests.
+    /// E17: a statement that no transaction may hold: CREATE, ALTER, DROP, SAVE IMAGE or one about digests.
     ForbiddenInTransaction,
     /// E18: a row of VALUES has more or fewer values than there are columns.
     ValueCountMismatch,

@@ -2,7 +2,9 @@
 use Rattle.std.proofs.Common.{◌≡◌, ◌≤◌, ◌<◌, ℕ, ◌+◌, ◌^◌, refl, sym, ap, subst, ◌∙◌, List, [], ◌∷◌, ◌++◌, map, length, Option, Some, arith}
 use Rattle.std.proofs.lemmas.List.{length-map}
 use Rattle.std.specs.List.{AllByRecursion}
-use Rattle.sql_value.specs.declared.refusal.Refusal.TheVariants.{NoSuchTable}
+use Rattle.std.specs.Prelude.{◌≢◌, Result, Ok, Err, IfErr, IfOk, IsErrAnd, OnErr}
+use Rattle.sql_value.specs.declared.refusal.Refusal.{Refusal}
+use Rattle.sql_value.specs.declared.refusal.Refusal.TheVariants.{NoMemory, NoSuchTable}
 use Rattle.sql_types.specs.declared.change.Change.{Change}
 use Rattle.sql_types.specs.declared.change.Change.TheVariants.{Starts, Ends}
 use Rattle.sql_types.specs.declared.lock.Hold.{Hold}
@@ -72,11 +74,10 @@ are_new table tx seq starts meant rows is same leaves room = record {
 
 -- ---- the cell
 
-cell_of : Defs → Option Creator → List Version → List Version → List Hold → CatalogCell
+abbrev pub cell_of : Defs → Option Creator → List Version → List Version → List Hold → CatalogCell
 cell_of defs creator tables columns holds = record { defs = defs; creator = creator; tables = tables; columns = columns; holds = holds }
 
 pub same_cell : (c d : CatalogCell) → c.defs ≡ d.defs → c.creator ≡ d.creator → c.tables ≡ d.tables → c.columns ≡ d.columns → c.holds ≡ d.holds → c ≡ d
-unfolding cell_of
 same_cell c d e f g h k =
     ap (λ (x : Defs). cell_of x c.creator c.tables c.columns c.holds) e
     ∙ ap (λ (x : Option Creator). cell_of d.defs x c.tables c.columns c.holds) f
@@ -167,3 +168,18 @@ module _ {H : Type 0} (digest : H → List ℕ → List ℕ) where
             (subst (λ (n : ℕ). Represents digest h ctx (noting (n + length index.ordinals) (grown columns_id (events_from tx n columns_id d.columns) o.trees) o)) s
             (index_context h ctx o tx seq def index ls c d e of));
       }
+
+-- ---- where memory lacks
+
+module _ {A : Type 0} where
+  pub none_made : (P : A → Type 0) (result : Result A Refusal) → IsErrAnd result (λ e. e ≡ NoMemory) → IfOk result P
+  none_made P (Ok a) lacks = absurd lacks
+  none_made P (Err e) lacks = tt
+
+  pub none_refused : (P : Refusal → Type 0) (result : Result A Refusal) → IsErrAnd result (λ e. e ≡ NoMemory) → IfErr result (λ e. e ≢ NoMemory → P e)
+  none_refused P (Ok a) lacks = absurd lacks
+  none_refused P (Err e) lacks = λ other. absurd (other lacks)
+
+  pub still_so : (P : Type 0) (result : Result A Refusal) → P → OnErr result P
+  still_so P (Ok a) same = tt
+  still_so P (Err e) same = same

@@ -4,16 +4,20 @@ use Rattle.std.proofs.lemmas.Bool.{eq-eqb, ne_eqb}
 use Rattle.std.proofs.lemmas.List.{set-set, set-get_or, take-append-le}
 use Rattle.std.specs.Prelude.{slice_set, ◌==◌}
 use Rattle.std.specs.List.{AllByRecursion}
+use Rattle.sql_value.specs.Stored.{is_in_range}
 use Rattle.sql_types.specs.declared.table.TableDef.{TableDef}
 use Rattle.sql_types.specs.declared.table.Part.{Part}
 use Rattle.spec_model.specs.Agreement.{IdsFrom}
 use Rattle.spec_model.specs.Catalog.{Defs, NamedPart, part_named, or_in, find_part}
-use Rattle.law_frame.proofs.Alls.{all_append}
+use Rattle.law_frame.proofs.Alls.{all_append, all_weaker}
+use Rattle.law_journal.specs.Described.{InRange}
 use Rattle.law_journal.proofs.Created.{Created}
+use Rattle.law_journal.proofs.SystemRows.{IsSmall}
 use Rattle.spec_protocol.specs.CatalogVisits.{replaced_def}
 use Rattle.store_catalog.specs.Definitions.{AreFormed}
 use Rattle.store_catalog.specs.Names.{MayReplace}
-use Rattle.store_catalog.proofs.Named.{may_come_back}
+use Rattle.store_catalog.specs.WorkedOut.{IsPlaced}
+use Rattle.store_catalog.specs.declared.named_defs.PlacedDef.{PlacedDef}
 
 -- ---- one more
 
@@ -26,6 +30,7 @@ formed_more defs def h c = record {
   ids = ids_more 1 def defs h.ids (omega (arith, c.id));
   count = omega (arith, c.room, length-append defs (def ∷ []));
   few = all_append (λ (d : TableDef). length d.columns ≤ 64) defs (def ∷ []) h.few (c.count, tt);
+  types = all_append InRange defs (def ∷ []) h.types (all_weaker IsSmall (λ x. is_in_range x.ty ≡ true) (λ x s. s.ty) def.columns c.columns, tt);
 }
 
 pub before_more : (defs : Defs) (def : TableDef) → take (length (defs ++ def ∷ []) - 1) (defs ++ def ∷ []) ≡ defs
@@ -59,28 +64,18 @@ ids_in_place n p new [] ids is = tt
 ids_in_place n zero new (d ∷ ds) ids is = (omega (arith, is), ids.1)
 ids_in_place n (suc p) new (d ∷ ds) ids is = (ids.0, ids_in_place (n + 1) p new ds ids.1 (omega (arith, is)))
 
-few_in_place : (p : ℕ) (new : TableDef) (defs : Defs) → AllByRecursion (λ d. length d.columns ≤ 64) defs → length new.columns ≤ 64 → AllByRecursion (λ d. length d.columns ≤ 64) (slice_set defs p new)
-few_in_place p new [] h few = tt
-few_in_place zero new (d ∷ ds) h few = (few, h.1)
-few_in_place (suc p) new (d ∷ ds) h few = (h.0, few_in_place p new ds h.1 few)
+all_in_place : (P : TableDef → Type 0) (p : ℕ) (new : TableDef) (defs : Defs) → AllByRecursion P defs → P new → AllByRecursion P (slice_set defs p new)
+all_in_place P p new [] h own = tt
+all_in_place P zero new (d ∷ ds) h own = (own, h.1)
+all_in_place P (suc p) new (d ∷ ds) h own = (h.0, all_in_place P p new ds h.1 own)
 
-pub formed_in_place : (defs : Defs) (p : ℕ) (new : TableDef) → AreFormed defs → new.id ≡ p + 1 → length new.columns ≤ 64 → AreFormed (slice_set defs p new)
-formed_in_place defs p new h is few = record {
+formed_in_place : (defs : Defs) (p : ℕ) (new : TableDef) → AreFormed defs → new.id ≡ p + 1 → length new.columns ≤ 64 → InRange new → AreFormed (slice_set defs p new)
+formed_in_place defs p new h is few types = record {
   ids = ids_in_place 1 p new defs h.ids (omega (arith, is));
   count = omega (arith, h.count, length_set defs p new);
-  few = few_in_place p new defs h.few few;
+  few = all_in_place (λ (d : TableDef). length d.columns ≤ 64) p new defs h.few few;
+  types = all_in_place InRange p new defs h.types types;
 }
-
--- the definitions after and before
-pub formed_instead : (defs after : Defs) (p : ℕ) (new old : TableDef) → after ≡ slice_set defs p new → old ≡ get_or defs p old → AreFormed defs → new.id ≡ p + 1 → MayReplace defs p new → length new.columns ≤ 64
-    → AreFormed after × (AreFormed (slice_set after p old) × MayReplace after p old)
-formed_instead defs after p new old is at h id may few = (
-  subst AreFormed (sym is) (formed_in_place defs p new h id few),
-  (
-    subst AreFormed (sym (ap (λ (ds : Defs). slice_set ds p old) is ∙ before_in_place defs p new old at)) h,
-    subst (λ (ds : Defs). MayReplace ds p old) (sym is) (may_come_back defs p new old may at),
-  ),
-)
 
 none_from : (new : TableDef) (n : ℕ) (defs : Defs) → IdsFrom n defs → new.id < n → replaced_def new defs ≡ defs
 none_from new n [] ids below = refl
@@ -101,6 +96,22 @@ one_from new n (suc p) (d ∷ ds) ids is inside =
 
 pub replaced_in_place : (defs : Defs) (p : ℕ) (new : TableDef) → IdsFrom 1 defs → new.id ≡ p + 1 → p < length defs → slice_set defs p new ≡ replaced_def new defs
 replaced_in_place defs p new ids is inside = one_from new 1 p defs ids (omega (arith, is)) inside
+
+-- a definition in its table's place, and what was there
+module _ (defs after : Defs) (placed r : PlacedDef) (p : IsPlaced defs placed) (is : after ≡ slice_set defs placed.place placed.def) where
+  pub defs_instead : AreFormed defs → after ≡ replaced_def placed.def defs
+  defs_instead h = is ∙ replaced_in_place defs placed.place placed.def h.ids p.place p.may.within
+
+  module _ (at : r.place ≡ placed.place) (there : r.def ≡ get_or defs placed.place r.def) where
+    pub before_instead : slice_set after r.place r.def ≡ defs
+    before_instead = (λ i. slice_set (is i) (at i) r.def) ∙ before_in_place defs placed.place placed.def r.def there
+
+    -- the definitions after and before
+    pub formed_instead : AreFormed defs → MayReplace after r → AreFormed after × (AreFormed (slice_set after r.place r.def) × MayReplace after r)
+    formed_instead h back = (
+      subst AreFormed (sym is) (formed_in_place defs placed.place placed.def h p.place p.few p.types),
+      (subst AreFormed (sym before_instead) h, back),
+    )
 
 -- ---- the place of what a name stands for
 

@@ -1,6 +1,5 @@
 -- What a CREATE needs of the cell and of the context before it changes them.
-use Rattle.std.proofs.Common.{◌≡◌, ◌≤◌, ◌<◌, ℕ, ◌+◌, ◌-◌, ◌^◌, refl, sym, ap, ap₂, subst, ◌∙◌, List, [], ◌∷◌, ◌++◌, length, get_or, take, Option, Some, arith}
-use Rattle.std.specs.Prelude.{slice_set}
+use Rattle.std.proofs.Common.{◌≡◌, ◌<◌, ℕ, ◌+◌, ◌-◌, ◌^◌, ap, ap₂, ◌∙◌, List, [], ◌∷◌, ◌++◌, length, take, Option, Some, arith}
 use Rattle.std.specs.List.{AllByRecursion}
 use Rattle.sql_types.specs.declared.change.Change.{Change}
 use Rattle.sql_types.specs.declared.statement.CreateIndex.{CreateIndex}
@@ -15,13 +14,12 @@ use Rattle.spec_model.specs.SystemTables.{column_rows, columns_id, tables_id}
 use Rattle.law_journal.proofs.Created.{Created, created}
 use Rattle.spec_protocol.specs.CatalogVisits.{replaced_def}
 use Rattle.spec_protocol.specs.Cells.{CatalogCell, Creator}
-use Rattle.store_catalog.specs.Definitions.{AreFormed}
-use Rattle.store_catalog.specs.Names.{HaveSameNames, MayReplace}
+use Rattle.store_catalog.specs.Definitions.{redefined, AreFormed}
 use Rattle.store_catalog.specs.WorkedOut.{IsNewIndex, IsNewTable}
 use Rattle.store_catalog.specs.declared.creating.NewIndex.{NewIndex}
 use Rattle.store_catalog.specs.declared.creating.NewTable.{NewTable}
-use Rattle.store_catalog.proofs.Creates.{as_many, Entered, Indexes}
-use Rattle.store_catalog.proofs.DefsKept.{before_in_place, before_more, replaced_in_place}
+use Rattle.store_catalog.proofs.Creates.{as_many, cell_of, Entered, Indexes}
+use Rattle.store_catalog.proofs.DefsKept.{before_more}
 use Rattle.store_catalog.proofs.Fitting.{columns_starts_are_rows, of_index, table_starts_are_rows, OfIndex}
 
 abbrev made_by : ℕ → Defs → Option Creator
@@ -67,35 +65,15 @@ module _ (c : CatalogCell) (tx seq : ℕ) (create : CreateIndex) (new : NewIndex
       let all = as_many columns_id tx seq seq (index_starts changes_worked_out.def changes_worked_out.index) ls (leaves ∙ changes_worked_out.rows.leaves) of.rows in
       omega (arith, all, changes_worked_out.rows.room, is)
 
-  pub new_id : new.def.id ≡ new.place + 1
-  new_id = ap (λ (d : TableDef). d.id) changes_worked_out.now ∙ changes_worked_out.place
-
-  pub may_replace : MayReplace c.defs new.place new.def
-  may_replace = record {
-    within = changes_worked_out.within;
-    same_names = λ d. subst (λ (e : TableDef). HaveSameNames e new.def) (sym (there d)) (subst (HaveSameNames changes_worked_out.def) (sym changes_worked_out.now) (record { id = refl; name = refl; history = refl; view = refl }));
-  }
-    where
-      at_place : of.has_listing.place ≡ new.place
-      at_place = omega (arith, of.has_listing.id, changes_worked_out.place)
-
-      there : (d : TableDef) → get_or c.defs new.place d ≡ changes_worked_out.def
-      there d = subst (λ (n : ℕ). get_or c.defs n d ≡ changes_worked_out.def) at_place (of.has_listing.there d)
-
-  pub new_few : length new.def.columns ≤ 64
-  new_few = subst (λ (d : TableDef). length d.columns ≤ 64) (sym changes_worked_out.now) changes_worked_out.few
-
-  pub indexes : (d : CatalogCell) (cs : List Version) (old : TableDef) → AllByRecursion (MadeBefore tx seq) c.columns → d.defs ≡ slice_set c.defs new.place new.def → old ≡ get_or c.defs new.place old
-      → d.creator ≡ Some (record { tx = tx; before = slice_set d.defs new.place old }) → d.tables ≡ c.tables
-      → cs ≡ c.columns → d.columns ≡ changed_all tx seq new.rows.starts cs → d.holds ≡ c.holds
-      → Indexes tx seq changes_worked_out.def changes_worked_out.index ls c d
-  indexes d cs old old_columns defs at creator tables k columns holds = record {
+  pub indexes : (d : CatalogCell) (cs : List Version) → AllByRecursion (MadeBefore tx seq) c.columns → cs ≡ changed_all tx seq new.rows.starts c.columns
+      → d ≡ redefined tx new.placed.def (cell_of c.defs c.creator c.tables cs c.holds) → Indexes tx seq changes_worked_out.def changes_worked_out.index ls c d
+  indexes d cs old_columns columns e = record {
     rows = of.rows;
     old_columns = old_columns;
     leaves = leaves ∙ changes_worked_out.rows.leaves;
-    defs = defs ∙ replaced_in_place c.defs new.place new.def formed.ids new_id changes_worked_out.within ∙ ap (λ (x : TableDef). replaced_def x c.defs) changes_worked_out.now;
-    creator = creator ∙ ap (made_by tx) (ap (λ (ds : Defs). slice_set ds new.place old) defs ∙ before_in_place c.defs new.place new.def old at);
-    tables = tables;
-    columns = columns ∙ ap₂ (λ (xs : List Change) (vs : List Version). changed_all tx seq xs vs) changes_worked_out.rows.starts k;
-    holds = holds;
+    defs = ap (λ (x : CatalogCell). x.defs) e ∙ ap (λ (x : TableDef). replaced_def x c.defs) changes_worked_out.now;
+    creator = ap (λ (x : CatalogCell). x.creator) e;
+    tables = ap (λ (x : CatalogCell). x.tables) e;
+    columns = ap (λ (x : CatalogCell). x.columns) e ∙ columns ∙ ap (λ (xs : List Change). changed_all tx seq xs c.columns) changes_worked_out.rows.starts;
+    holds = ap (λ (x : CatalogCell). x.holds) e;
   }

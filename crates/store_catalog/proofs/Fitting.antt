@@ -1,5 +1,5 @@
 -- The rows of a new table and of a new index fit the tables of the system.
-use Rattle.std.proofs.Common.{◌≡◌, ◌≤◌, ◌<◌, ℕ, suc, ◌+◌, ◌*◌, refl, subst, ap, ◌∙◌, List, [], ◌∷◌, map, length, Ok, arith}
+use Rattle.std.proofs.Common.{◌≡◌, ◌≤◌, ◌<◌, ℕ, ◌+◌, ◌*◌, subst, ◌∙◌, List, [], ◌∷◌, map, length, Ok, arith}
 use Rattle.std.proofs.lemmas.List.{length-map}
 use Rattle.std.specs.List.{AllByRecursion}
 use Rattle.sql_value.specs.declared.column.ColumnDef.{ColumnDef}
@@ -12,6 +12,8 @@ use Rattle.spec_model.specs.Effect.{column_starts, index_starts, table_start}
 use Rattle.spec_model.specs.Lists.{numbered}
 use Rattle.spec_model.specs.Rows.{Row, stored_row}
 use Rattle.spec_model.specs.SystemTables.{column_row, column_rows, columns_columns, index_row, index_rows, tables_columns}
+use Rattle.law_frame.proofs.ChangeSets.{length-numbered as length_numbered}
+use Rattle.law_journal.specs.Described.{InRange}
 use Rattle.law_journal.specs.Fits.{Fits}
 use Rattle.law_journal.proofs.Created.{Created, Indexed, indexed}
 use Rattle.law_journal.proofs.SystemRows.{IsSmall, column_row_fits, index_row_fits, table_row_fits}
@@ -48,6 +50,7 @@ columns_starts_are_rows defs def c = starts_are_rows (map (column_row def.id) (n
 pub record OfIndex (defs : Defs) (def : TableDef) (index : IndexDef) : Type 0 where
   pub has_listing : IsListedAt 1 defs def
   pub few : length def.columns ≤ 64
+  pub types : InRange def
   pub rows : AllByRecursion IsRow (index_starts def index)
 
 pub of_index : (defs : Defs) (c : CreateIndex) (def : TableDef) (index : IndexDef) → AreFormed defs → index_check defs c ≡ Ok (def, index) → OfIndex defs def index
@@ -59,6 +62,7 @@ of_index defs c def index formed e =
     record {
       has_listing = s;
       few = few;
+      types = subst InRange i.is (found_all InRange defs i.table i.found i.by_name formed.types);
       rows = starts_are_rows (map (index_row def.id (length def.indexes + 1) index.name) (numbered 1 index.ordinals))
           (ordinals_fit def.id (length def.indexes + 1) 1 index.name index.ordinals (omega (arith, s.id, s.within, formed.count)) (omega (arith, i.indexes, i.count)) i.name
           (low few index.ordinals i.ordinals));
@@ -69,10 +73,6 @@ of_index defs c def index formed e =
     low few (o ∷ os) h = (omega (arith, h.0, few), low few os h.1)
 
 -- ---- how many there are
-
-length_numbered : {A : Type 0} (n : ℕ) (xs : List A) → length (numbered n xs) ≡ length xs
-length_numbered n [] = refl
-length_numbered n (x ∷ xs) = ap suc (length_numbered (n + 1) xs)
 
 pub length_columns : (def : TableDef) → length (column_starts (column_rows def)) ≡ length def.columns
 unfolding column_rows

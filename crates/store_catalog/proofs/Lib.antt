@@ -7,6 +7,8 @@ pub mod Fitting
 pub mod Named
 pub mod NewRows
 pub mod NotedLeaves
+pub mod Placing
+pub mod Redefining
 pub mod Shown
 pub mod Taking
 pub mod Visits

@@ -1,10 +1,13 @@
 -- The map of names: what a look-up finds, and the map after each change of the definitions.
-use Rattle.std.proofs.Common.{◌≡◌, ◌<◌, ◌+◌, ℕ, suc, zero, refl, sym, ap, subst, ◌∙◌, Bool, false, true, if◌then◌else◌, nat_le, ◌||◌, List, [], ◌∷◌, ◌++◌, length, get_or, take, slice_set, Option, Some, None, Ok, arith, append_assoc, append-nil, length-append, length-set, bytes_eq}
-use Rattle.std.proofs.lemmas.List.{get_or-set_same, map-append, take-append-le}
+use Rattle.std.proofs.Common.{◌≡◌, ◌<◌, ◌+◌, ℕ, suc, zero, refl, sym, ap, subst, ap₂, ◌∙◌, Bool, false, true, if◌then◌else◌, nat_le, ◌||◌, List, [], ◌∷◌, ◌++◌, length, get_or, take, drop, slice_set, Option, Some, None, Ok, arith, append_assoc, append-nil, length-append, bytes_eq}
+use Rattle.std.proofs.lemmas.List.{get_or-set_same, map-append, set-get_or, set-set, take-append-le}
+use Rattle.std.proofs.lemmas.List.Folds.{list_any-append}
+use Rattle.std.proofs.Math.Seq.{drop-cons}
 use Rattle.std.specs.Cmp.Lexicographic.{nat_list_eq_equiv}
-use Rattle.std.specs.List.{filter, list_any}
+use Rattle.std.specs.List.{filter, list_any, AllByRecursion, IsDistinct}
 use Rattle.std.specs.Map.{keys_of, lookup}
-use Rattle.indexmap.specs.IndexMap.{insert_all, insert_entry}
+use Rattle.std.specs.Prelude.{option_map, unwrap_or, IfNone, IfSome}
+use Rattle.indexmap.specs.IndexMap.{insert_all, insert_entry, IndexMap}
 use Rattle.sql_value.specs.declared.refusal.Refusal.{Refusal}
 use Rattle.sql_value.specs.declared.refusal.Refusal.TheVariants.{NameConflict, NoSuchColumn, NullNotAllowed, LimitExceeded}
 use Rattle.sql_types.specs.declared.table.Part.{Part}
@@ -16,7 +19,7 @@ use Rattle.spec_model.specs.Checks.{refused_if}
 use Rattle.spec_model.specs.Create.{all_names, create_check, exceeds_limit, has_bad_name, has_null_key, is_ledger_name, is_name, names_of, next_id, table_def, table_names}
 use Rattle.spec_model.specs.Lists.{has_name, repeats}
 use Rattle.law_frame.proofs.SameKeys.{or_false}
-use Rattle.store_catalog.specs.Names.{leading, names_at, names_from, HasNewNames, HaveSameNames, MayReplace, NameEntry}
+use Rattle.store_catalog.specs.Names.{leading, names_at, names_from, HasNewNames, HaveSameNames, NameEntry}
 use Rattle.store_catalog.specs.declared.named_defs.NamedPlace.{NamedPlace}
 
 same : (x y : List ℕ) → bytes_eq x y ≡ bytes_eq y x
@@ -220,23 +223,147 @@ same_at : (place : ℕ) (old new : TableDef) → HaveSameNames old new → names
 same_at place old new h =
     λ i. leading (sym h.name i) place (if nat_le (sym h.id i) 2 then System else Base) ++ leading (sym h.history i) place History ++ leading (sym h.view i) place View
 
-pub after_replace : (first place : ℕ) (new : TableDef) (defs : Defs) → MayReplace defs place new → names_from first (slice_set defs place new) ≡ names_from first defs
-after_replace first place new [] may = refl
-after_replace first zero new (d ∷ ds) may = ap (λ (es : List NameEntry). es ++ names_from (first + 1) ds) (same_at first d new (may.same_names d))
-after_replace first (suc place) new (d ∷ ds) may =
-    ap (λ (es : List NameEntry). names_at first d ++ es) (after_replace (first + 1) place new ds (record { within = omega (arith, may.within); same_names = may.same_names }))
+after_replace : (first place : ℕ) (new : TableDef) (defs : Defs) → place < length defs → ((d : TableDef) → HaveSameNames (get_or defs place d) new) → names_from first (slice_set defs place new) ≡ names_from first defs
+after_replace first place new [] within same = refl
+after_replace first zero new (d ∷ ds) within same = ap (λ (es : List NameEntry). es ++ names_from (first + 1) ds) (same_at first d new (same d))
+after_replace first (suc place) new (d ∷ ds) within same =
+    ap (λ (es : List NameEntry). names_at first d ++ es) (after_replace (first + 1) place new ds (omega (arith, within)) same)
 
--- the one before may come back
-pub may_come_back : (defs : Defs) (place : ℕ) (new old : TableDef) → MayReplace defs place new → old ≡ get_or defs place old → MayReplace (slice_set defs place new) place old
-may_come_back defs place new old may is =
-    let h : HaveSameNames old new = subst (λ (d : TableDef). HaveSameNames d new) (sym is) (may.same_names old) in
-    let back : HaveSameNames new old = record { id = sym h.id; name = sym h.name; history = sym h.history; view = sym h.view } in
-    let as_many : length (slice_set defs place new) ≡ length defs = length-set defs place new in
-    let there : (d : TableDef) → get_or (slice_set defs place new) place d ≡ new = λ d. get_or-set_same defs place new d may.within in
-    record {
-      within = omega (arith, may.within, as_many);
-      same_names = λ d. subst (λ (e : TableDef). HaveSameNames e old) (sym (there d)) back;
-    }
+-- ---- names that are apart
+
+-- no name of the first is among the others
+abbrev Apart : List (List ℕ) → List (List ℕ) → Type 0
+Apart xs ys = AllByRecursion (λ x. has_name ys x ≡ false) xs
+
+has_both : (xs ys : List (List ℕ)) (n : List ℕ) → has_name (xs ++ ys) n ≡ (has_name xs n || has_name ys n)
+has_both xs ys n = list_any-append (λ m. bytes_eq m n) xs ys
+
+free_of_both : (xs ys : List (List ℕ)) (n : List ℕ) → has_name xs n ≡ false → has_name ys n ≡ false → has_name (xs ++ ys) n ≡ false
+free_of_both xs ys n e f = has_both xs ys n ∙ (λ i. e i || f i)
+
+free_of_each : (xs ys : List (List ℕ)) (n : List ℕ) → has_name (xs ++ ys) n ≡ false → (has_name xs n ≡ false) × (has_name ys n ≡ false)
+free_of_each xs ys n e = or_false (has_name xs n) (has_name ys n) (sym (has_both xs ys n) ∙ e)
+
+apart_of : (xs ys : List (List ℕ)) → list_any (has_name ys) xs ≡ false → Apart xs ys
+apart_of [] ys e = tt
+apart_of (x ∷ xs) ys e = let p = or_false (has_name ys x) (list_any (has_name ys) xs) e in (p.0, apart_of xs ys p.1)
+
+apart_first : (xs ys zs : List (List ℕ)) → Apart xs (ys ++ zs) → Apart xs ys
+apart_first [] ys zs h = tt
+apart_first (x ∷ xs) ys zs h = ((free_of_each ys zs x h.0).0, apart_first xs ys zs h.1)
+
+apart_second : (xs ys zs : List (List ℕ)) → Apart xs (ys ++ zs) → Apart xs zs
+apart_second [] ys zs h = tt
+apart_second (x ∷ xs) ys zs h = ((free_of_each ys zs x h.0).1, apart_second xs ys zs h.1)
+
+free_by : (xs ys : List (List ℕ)) (y : List ℕ) → Apart xs (y ∷ ys) → has_name xs y ≡ false
+free_by [] ys y h = refl
+free_by (x ∷ xs) ys y h =
+    let p = or_false (bytes_eq y x) (has_name ys x) h.0 in
+    let rest : has_name xs y ≡ false = free_by xs ys y h.1 in
+    λ i. (same x y ∙ p.0) i || rest i
+
+turned : (xs ys : List (List ℕ)) → Apart xs ys → Apart ys xs
+turned xs [] h = tt
+turned xs (y ∷ ys) h = (free_by xs ys y h, turned xs ys (apart_second xs (y ∷ []) ys h))
+
+repeats_none : (xs ys : List (List ℕ)) → repeats xs ≡ false → repeats ys ≡ false → Apart xs ys → repeats (xs ++ ys) ≡ false
+repeats_none [] ys e f h = f
+repeats_none (x ∷ xs) ys e f h =
+    let p = or_false (has_name xs x) (repeats xs) e in
+    let rest : repeats (xs ++ ys) ≡ false = repeats_none xs ys p.1 f h.1 in
+    λ i. free_of_both xs ys x p.0 h.0 i || rest i
+
+repeats_neither : (xs ys : List (List ℕ)) → repeats (xs ++ ys) ≡ false → (repeats xs ≡ false) × (repeats ys ≡ false) × Apart xs ys
+repeats_neither [] ys e = (refl, e, tt)
+repeats_neither (x ∷ xs) ys e =
+    let p = or_false (has_name (xs ++ ys) x) (repeats (xs ++ ys)) e in
+    let q = free_of_each xs ys x p.0 in
+    let rest = repeats_neither xs ys p.1 in
+    ((λ i. q.0 i || rest.0 i), rest.1, (q.1, rest.2))
+
+once_each : (ks : List (List ℕ)) → IsDistinct bytes_eq ks → repeats ks ≡ false
+unfolding IsDistinct
+once_each [] d = refl
+once_each (k ∷ ks) d =
+    let rest : repeats ks ≡ false = once_each ks d.1 in
+    λ i. here ks d.0 i || rest i
+  where
+    here : (xs : List (List ℕ)) → AllByRecursion (λ x. bytes_eq k x ≡ false) xs → has_name xs k ≡ false
+    here [] h = refl
+    here (x ∷ xs) h =
+        let rest : has_name xs k ≡ false = here xs h.1 in
+        λ i. (same x k ∙ h.0) i || rest i
+
+-- ---- all names, once a definition with new ones stands at its place
+
+module _ (new : TableDef) where
+  free_instead : (defs : Defs) (p : ℕ) (n : List ℕ) → has_name (all_names defs) n ≡ false → has_name (table_names new) n ≡ false → has_name (all_names (slice_set defs p new)) n ≡ false
+  free_instead [] p n e f = refl
+  free_instead (d ∷ ds) zero n e f = free_of_both (table_names new) (all_names ds) n f (free_of_each (table_names d) (all_names ds) n e).1
+  free_instead (d ∷ ds) (suc p) n e f =
+      let q = free_of_each (table_names d) (all_names ds) n e in
+      free_of_both (table_names d) (all_names (slice_set ds p new)) n q.0 (free_instead ds p n q.1 f)
+
+  apart_instead : (xs : List (List ℕ)) (defs : Defs) (p : ℕ) → Apart xs (all_names defs) → Apart xs (table_names new) → Apart xs (all_names (slice_set defs p new))
+  apart_instead [] defs p h k = tt
+  apart_instead (x ∷ xs) defs p h k = (free_instead defs p x h.0 k.0, apart_instead xs defs p h.1 k.1)
+
+  once_instead : (defs : Defs) (p : ℕ) → repeats (all_names defs) ≡ false → Apart (table_names new) (all_names defs) → repeats (table_names new) ≡ false → repeats (all_names (slice_set defs p new)) ≡ false
+  once_instead [] p e h own = refl
+  once_instead (d ∷ ds) zero e h own =
+      repeats_none (table_names new) (all_names ds) own (repeats_neither (table_names d) (all_names ds) e).1 (apart_second (table_names new) (table_names d) (all_names ds) h)
+  once_instead (d ∷ ds) (suc p) e h own =
+      let old = repeats_neither (table_names d) (all_names ds) e in
+      repeats_none (table_names d) (all_names (slice_set ds p new)) old.0
+      (once_instead ds p old.1 (apart_second (table_names new) (table_names d) (all_names ds) h) own)
+      (apart_instead (table_names d) ds p old.2 (turned (table_names new) (table_names d) (apart_first (table_names new) (table_names d) (all_names ds) h)))
+
+pub all_once : (defs : Defs) (entries : List NameEntry) → entries ≡ names_from 0 defs → IsDistinct bytes_eq (keys_of entries) → repeats (all_names defs) ≡ false
+all_once defs entries is d = ap repeats (sym (ap keys_of is ∙ keys_from 0 defs)) ∙ once_each (keys_of entries) d
+
+-- the map that is made of all names
+pub after_rename : (defs : Defs) (place : ℕ) (new : TableDef) → repeats (all_names defs) ≡ false → HasNewNames defs new → insert_all bytes_eq [] (names_from 0 (slice_set defs place new)) ≡ names_from 0 (slice_set defs place new)
+after_rename defs place new once h =
+    let after : Defs = slice_set defs place new in
+    let apart : repeats (all_names after) ≡ false = once_instead new defs place once (apart_of (table_names new) (all_names defs) h.unused) h.apart in
+    all_last [] (names_from 0 after) (none_unused (keys_of (names_from 0 after))) (ap repeats (keys_from 0 after) ∙ apart)
+
+-- the names of one definition after those of others
+pub add_step : (entries made : List NameEntry) (defs : Defs) (there : ℕ) (def : TableDef) → made ≡ insert_all bytes_eq entries (names_at there def) → def ≡ get_or defs there def → there < length defs
+    → insert_all bytes_eq made (names_from (there + 1) (drop (there + 1) defs)) ≡ insert_all bytes_eq entries (names_from there (drop there defs))
+add_step entries made defs there def is at within =
+    let next : suc there ≡ there + 1 = omega arith in
+    let rest : List NameEntry = names_from (there + 1) (drop (there + 1) defs) in
+    ap (λ (es : List NameEntry). insert_all bytes_eq es rest) is
+    ∙ sym (all_in_turn entries (names_at there def) rest)
+    ∙ ap (λ (ds : Defs). insert_all bytes_eq entries (names_from there ds)) (sym (drop-cons defs there def within ∙ ap₂ (λ (d : TableDef) (n : ℕ). d ∷ drop n defs) (sym at) next))
+  where
+    all_in_turn : (es xs ys : List NameEntry) → insert_all bytes_eq es (xs ++ ys) ≡ insert_all bytes_eq (insert_all bytes_eq es xs) ys
+    all_in_turn es [] ys = refl
+    all_in_turn es (x ∷ xs) ys = all_in_turn (insert_entry bytes_eq es x.0 x.1) xs ys
+
+-- ---- a definition in the place of another, and the way back
+
+module _ {S : Type 0} (defs : Defs) (place : ℕ) (new : TableDef) (names : IndexMap (List ℕ) NamedPlace S) (is : names.entries ≡ names_from 0 defs) (within : place < length defs) where
+  pub now_named : (o : Option (IndexMap (List ℕ) NamedPlace S)) → IfNone o ((d : TableDef) → HaveSameNames (get_or defs place d) new) → IfSome o (λ given. given.entries ≡ names_from 0 (slice_set defs place new))
+      → (unwrap_or o names).entries ≡ names_from 0 (slice_set defs place new)
+  now_named None kept given = is ∙ sym (after_replace 0 place new defs within kept)
+  now_named (Some m) kept given = given
+
+  module _ (old : TableDef) (there : old ≡ get_or defs place old) where
+    pub same_back : (o : Option (IndexMap (List ℕ) NamedPlace S)) → IfNone o ((d : TableDef) → HaveSameNames (get_or defs place d) new)
+        → IfNone (option_map (λ (m : IndexMap (List ℕ) NamedPlace S). names) o) ((d : TableDef) → HaveSameNames (get_or (slice_set defs place new) place d) old)
+    same_back None kept =
+        let h : HaveSameNames old new = subst (λ (d : TableDef). HaveSameNames d new) (sym there) (kept old) in
+        let back : HaveSameNames new old = record { id = sym h.id; name = sym h.name; history = sym h.history; view = sym h.view } in
+        λ d. subst (λ (e : TableDef). HaveSameNames e old) (sym (get_or-set_same defs place new d within)) back
+    same_back (Some m) kept = tt
+
+    pub names_back : (o : Option (IndexMap (List ℕ) NamedPlace S))
+        → IfSome (option_map (λ (m : IndexMap (List ℕ) NamedPlace S). names) o) (λ given. given.entries ≡ names_from 0 (slice_set (slice_set defs place new) place old))
+    names_back None = tt
+    names_back (Some m) = is ∙ ap (names_from 0) (sym (set-set defs place new old ∙ ap (slice_set defs place) there ∙ set-get_or defs place old))
 
 -- ---- a table that passes the checks has new names
 

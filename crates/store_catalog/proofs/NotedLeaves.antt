@@ -1,7 +1,7 @@
 -- What leaves that are noted make of a transaction.
 use Rattle.std.proofs.Common.{◌≡◌, ◌≢◌, ◌≤◌, ◌+◌, ◌-◌, ℕ, Bool, true, false, List, [], ◌∷◌, ◌++◌, length, map, take, drop, get_or, refl, sym, ap, subst, ◌∙◌, ⊎_elim, arith, append_assoc, append-nil}
 use Rattle.std.specs.Prelude.{◌==◌, if◌then◌else◌}
-use Rattle.std.proofs.lemmas.Bool.{cases_eq, eq-eqb, eqb-true, ne_eqb}
+use Rattle.std.proofs.lemmas.Bool.{cases_eq, eqb-true, ne_eqb}
 use Rattle.sql_types.specs.declared.event.Event.{Event}
 use Rattle.format_event.specs.Leaf.{event_bytes}
 use Rattle.spec_model.specs.SystemTables.{columns_id, tables_id}
@@ -13,6 +13,7 @@ use Rattle.store_tx.specs.Represents.{Represents, IsOpen, MayNote}
 use Rattle.store_tx.specs.Trees.{tree_of, IsTree}
 use Rattle.store_tx.specs.declared.context.TxCtx.{TxCtx}
 use Rattle.store_tx.proofs.Leaves.{leaf_here, leaf_elsewhere}
+use Rattle.store_table.proofs.Noted.{grown_here}
 use Rattle.store_catalog.specs.Noted.{with_leaves, MayNoteBoth, MayNoteMany}
 
 -- ---- the first of some leaves
@@ -38,15 +39,6 @@ with_here table (l ∷ ls) trees = with_here table ls (with_leaf table l trees) 
 with_elsewhere : (id table : ℕ) (ls : List (List ℕ)) (trees : List Tree) → id ≢ table → leaves_in id (with_leaves table ls trees) ≡ leaves_in id trees
 with_elsewhere id table [] trees ne = refl
 with_elsewhere id table (l ∷ ls) trees ne = with_elsewhere id table ls (with_leaf table l trees) ne ∙ leaf_elsewhere id table l trees ne
-
-grown_here : (table : ℕ) (es : List Event) (trees : List Tree) → leaves_in table (grown table es trees) ≡ leaves_in table trees ++ map event_bytes es
-grown_here table es [] = rw (eq-eqb table table refl) refl
-grown_here table es (t ∷ ts) = by (t.table == table) refl (grown_here table es ts)
-  where
-    by : (b : Bool) → (t.table == table) ≡ b → leaves_in table (grown table es ts) ≡ leaves_in table ts ++ map event_bytes es
-        → leaves_in table (if b then record { table = table; leaves = t.leaves ++ map event_bytes es } ∷ ts else t ∷ grown table es ts) ≡ (if b then t.leaves else leaves_in table ts) ++ map event_bytes es
-    by true e rest = rw (eq-eqb table table refl) refl
-    by false e rest = rw e rest
 
 grown_elsewhere : (id table : ℕ) (es : List Event) (trees : List Tree) → id ≢ table → leaves_in id (grown table es trees) ≡ leaves_in id trees
 grown_elsewhere id table es [] ne = rw (ne_eqb table id (λ e. ne (sym e))) refl

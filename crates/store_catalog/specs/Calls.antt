@@ -6,13 +6,15 @@ use Rattle.sql_types.specs.declared.statement.CreateIndex.{CreateIndex}
 use Rattle.sql_types.specs.declared.statement.CreateTable.{CreateTable}
 use Rattle.sql_types.specs.declared.table.IndexDef.{IndexDef}
 use Rattle.sql_types.specs.declared.table.TableDef.{TableDef}
+use Rattle.spec_model.specs.Alter.{Altered}
 use Rattle.spec_model.specs.Create.{create_check, index_check, with_index}
 use Rattle.spec_model.specs.Holds.{holds_after, holds_any, released}
 use Rattle.spec_model.specs.InTheWay.{first_conflict}
+use Rattle.spec_model.specs.Refusals.{Checked}
 use Rattle.spec_model.specs.Runs.{MadeBefore}
 use Rattle.spec_model.specs.SystemTables.{columns_id}
 use Rattle.spec_model.specs.Undo.{versions_undone}
-use Rattle.spec_protocol.specs.CatalogVisits.{with_holds, with_table, with_new_index, with_system_leaves}
+use Rattle.spec_protocol.specs.CatalogVisits.{with_altered, with_altered_leaves, with_holds, with_table, with_new_index, with_system_leaves}
 use Rattle.spec_protocol.specs.Cells.{CatalogCell}
 use Rattle.spec_protocol.specs.Doing.{grown, events_from}
 use Rattle.spec_protocol.specs.Moves.{noting}
@@ -72,6 +74,22 @@ pub record IndexMade {H : Type 0} (digest : H → List ℕ → List ℕ) (c : Ca
   pub now : answer ≡ with_index def index
   pub made : (h : H) (o : OpenTransaction) → Represents digest h before o
       → HasIndex digest h c def index o d after
+
+-- ---- altering and dropping
+
+-- the definition and the row that says so are in the catalog, and the context has its leaf
+pub record HasAltered {H : Type 0} (digest : H → List ℕ → List ℕ) (h : H) (c : CatalogCell) (a : Altered)
+    (o : OpenTransaction) (d : CatalogCell) (ctx : TxCtx H) : Type 0 where
+  pub cell : d ≡ with_altered o.id o.seq a c.holds c
+  pub context : Represents digest h ctx (noting (o.seq + length a.first + length a.second)
+      (with_altered_leaves o.id o.seq a.first d o.trees) o)
+
+-- nothing is refused, and the table is altered or dropped for each transaction of which the context may be
+pub record TableAltered {H : Type 0} (digest : H → List ℕ → List ℕ) (c : CatalogCell) (before : TxCtx H)
+    (meant : Checked Altered) (d : CatalogCell) (after : TxCtx H) : Type 0 where
+  pub a : Altered
+  pub passes : meant ≡ Ok a
+  pub made : (h : H) (o : OpenTransaction) → Represents digest h before o → HasAltered digest h c a o d after
 
 -- ---- undoing and releasing
 

@@ -1,5 +1,5 @@
 -- The names of tables, and where they lead.
-use Rattle.std.specs.Prelude.{ℕ, ◌≡◌, ◌+◌, ◌<◌, ◌++◌, false, List, [], ◌∷◌, length, get_or}
+use Rattle.std.specs.Prelude.{ℕ, ◌≡◌, ◌+◌, ◌<◌, ◌++◌, false, List, [], ◌∷◌, length, get_or, slice_set, IfNone, IfSome}
 use Rattle.std.specs.List.{list_any}
 use Rattle.sql_types.specs.declared.table.Part.{Part}
 use Rattle.sql_types.specs.declared.table.Part.TheVariants.{History, View}
@@ -8,6 +8,7 @@ use Rattle.spec_model.specs.Catalog.{Defs, own_part}
 use Rattle.spec_model.specs.Create.{all_names, table_names}
 use Rattle.spec_model.specs.Lists.{has_name, repeats}
 use Rattle.store_catalog.specs.declared.named_defs.NamedPlace.{NamedPlace}
+use Rattle.store_catalog.specs.declared.named_defs.PlacedDef.{PlacedDef}
 
 abbrev pub NameEntry : Type 0
 NameEntry = List ℕ × NamedPlace
@@ -39,7 +40,8 @@ pub record HaveSameNames (old new : TableDef) : Type 0 where
   pub history : old.history ≡ new.history
   pub view : old.view ≡ new.view
 
--- the definition may come in the place of the one there
-pub record MayReplace (defs : Defs) (place : ℕ) (new : TableDef) : Type 0 where
-  pub within : place < length defs
-  pub same_names : (d : TableDef) → HaveSameNames (get_or defs place d) new
+-- the definition may come in the place of the one there: it has the same names, or with it are those that all have then
+pub record MayReplace (defs : Defs) (new : PlacedDef) : Type 0 where
+  pub within : new.place < length defs
+  pub same_names : IfNone new.names ((d : TableDef) → HaveSameNames (get_or defs new.place d) new.def)
+  pub new_names : IfSome new.names (λ names. names.entries ≡ names_from 0 (slice_set defs new.place new.def))

@@ -6,6 +6,7 @@ ghost use Rattle.sql_types.specs.declared.table.Part.TheVariants.{System};
 ghost use Rattle.sql_types.specs.declared.table.TableDef.{TableDef};
 ghost use Rattle.sql_value.specs.declared.refusal.Refusal.{Refusal};
 ghost use Rattle.sql_value.specs.declared.refusal.Refusal.TheVariants.{NoMemory};
+ghost use Rattle.spec_model.specs.Alter.{alteration, table_drop};
 ghost use Rattle.spec_model.specs.Catalog.{find_part};
 ghost use Rattle.spec_model.specs.Create.{create_check, index_check};
 ghost use Rattle.spec_model.specs.Effect.{query_rows};
@@ -17,19 +18,23 @@ ghost use Rattle.spec_protocol.specs.Cells.{first_catalog, versions_in, Catalog}
 ghost use Rattle.spec_protocol.specs.Doing.{Stopped};
 ghost use Rattle.spec_protocol.specs.Seats.{OpenTransaction};
 ghost use Rattle.store_tx.specs.Represents.{Represents};
-ghost use Rattle.store_catalog.specs.Calls.{left, undone, IndexMade, LocksTaken, MayCreate, TableMade};
+ghost use Rattle.store_catalog.specs.Calls.{left, undone, IndexMade, LocksTaken, MayCreate, TableAltered, TableMade};
+ghost use Rattle.store_catalog.specs.Definitions.{redefined};
+ghost use Rattle.store_catalog.specs.WorkedOut.{IsPlaced};
 
+use crate::altering::{AlteredTable, work_out_alter, work_out_drop};
 use crate::creating::{COLUMNS, NewIndex, NewTable, TABLES, work_out_index, work_out_table};
-use crate::definitions::{Creator, ReplacedDef, copy_before, copy_defs, keep_change, undo_change};
+use crate::definitions::{Creator, copy_before, copy_defs, keep_change, undo_change};
 use crate::locks::or_refusal;
-use crate::named_defs::NamedDefs;
-use crate::noting::{note_all, note_both, open_both};
+use crate::named_defs::{NamedDefs, PlacedDef};
+use crate::noting::{note_both, open_both};
 use crate::reading::show;
 use crate::rows::carry_out;
+use crate::starting::start_rows;
 use base_merkle::Hash32;
 use base_types::{Items, Memory, Name, TableId, TxId};
 use sql_system::first_tables;
-use sql_types::{CreateIndex, CreateTable, Part, Row, Select, TableDef, Version};
+use sql_types::{Alter, CreateIndex, CreateTable, Part, Row, Select, TableDef, Version};
 use sql_value::Refusal;
 use std::alloc::Global;
 use std::marker::Model;
@@ -83,7 +88,7 @@ fn reserve(
 impl CatalogCell {
     /// The cell of a database without transactions: the definitions of the system tables, without rows and
     /// locks.
-    #[tactic(auto, unfolding(spec_model::specs::SystemTables::first_tables))]
+    #[tactic(auto, unfolding(spec_model::specs::SystemTables::first_tables, sql_value::specs::Stored::is_in_range))]
     pub fn new(alloc: Global) -> Result<CatalogCell, Memory>
         ensures { IfOk result (λ c. c ≡ first_catalog) }
     {
@@ -221,19 +226,80 @@ impl CatalogCell {
     {
         let (tx, seq) = (ctx.id(), ctx.seq());
         let NewIndex {
-            place,
-            def,
+            placed,
             answer,
             rows,
         } = work_out_index(alloc, &self.defs, tx, seq, create)?;
-        ctx.open_tree(COLUMNS)?;
-        self.columns.reserve(rows.starts.len())?;
-        note_all(ctx, COLUMNS, rows.leaves.as_slice());
-        carry_out(&mut self.columns, tx, seq, rows.starts);
-        let def = self.defs.replace(place, def);
-        let replaced = Some(ReplacedDef { place, def });
-        self.creator = Some(Creator { tx, replaced });
+        start_rows(ctx, &mut self.columns, COLUMNS, tx, seq, rows)?;
+        self.redefine(tx, placed);
         Ok(answer)
+    }
+
+    /// Adds a column to a table, or drops one: the definition is in the place of the one before, the row that
+    /// says so is in the table of columns, and its leaf in the transaction's tree of it. The table's own rows
+    /// stay as they are. It is refused as the checks of ALTER TABLE say, or for want of memory; then the cell
+    /// is as it was, and the context is of the same transaction as before.
+    pub fn alter_table<H: Hash32>(
+        &mut self,
+        alloc: Global,
+        ctx: &mut TxCtx<H>,
+        alter: &Alter,
+    ) -> Result<(), Refusal>
+        requires { MayCreate H.digest ctx.old self.old }
+        ensures ok { OnOk result (TableAltered H.digest self.old ctx.old
+            (alteration self.old.defs self.old.tables self.old.columns alter.now) self.new ctx.new) }
+        ensures refused { IfErr result (λ e. e ≢ NoMemory
+            → alteration self.old.defs self.old.tables self.old.columns alter.now ≡ Err e) }
+        ensures err { OnErr result (self.new ≡ self.old) }
+        ensures context { OnErr result ((h : H) (o : OpenTransaction) → Represents H.digest h ctx.old o
+            → Represents H.digest h ctx.new o) }
+    {
+        let (tx, seq) = (ctx.id(), ctx.seq());
+        let (tables, columns) = (self.tables.versions(), self.columns.versions());
+        let AlteredTable { placed, rows } = work_out_alter(
+            alloc, &self.defs, tables, columns, tx, seq, alter,
+        )?;
+        start_rows(ctx, &mut self.columns, COLUMNS, tx, seq, rows)?;
+        self.redefine(tx, placed);
+        Ok(())
+    }
+
+    /// Drops a table: the definition under its new names is in the place of the one before, the row that says
+    /// so is in the table of tables, and its leaf in the transaction's tree of it. The table's own rows stay as
+    /// they are. It is refused as the checks of DROP TABLE say, or for want of memory; then the cell is as it
+    /// was, and the context is of the same transaction as before.
+    pub fn drop_table<H: Hash32>(
+        &mut self,
+        alloc: Global,
+        ctx: &mut TxCtx<H>,
+        name: &Name,
+    ) -> Result<(), Refusal>
+        requires { MayCreate H.digest ctx.old self.old }
+        ensures ok { OnOk result (TableAltered H.digest self.old ctx.old
+            (table_drop self.old.defs self.old.tables self.old.columns name.now) self.new ctx.new) }
+        ensures refused { IfErr result (λ e. e ≢ NoMemory
+            → table_drop self.old.defs self.old.tables self.old.columns name.now ≡ Err e) }
+        ensures err { OnErr result (self.new ≡ self.old) }
+        ensures context { OnErr result ((h : H) (o : OpenTransaction) → Represents H.digest h ctx.old o
+            → Represents H.digest h ctx.new o) }
+    {
+        let (tx, seq) = (ctx.id(), ctx.seq());
+        let (tables, columns) = (self.tables.versions(), self.columns.versions());
+        let AlteredTable { placed, rows } = work_out_drop(
+            alloc, &self.defs, tables, columns, tx, seq, name,
+        )?;
+        start_rows(ctx, &mut self.tables, TABLES, tx, seq, rows)?;
+        self.redefine(tx, placed);
+        Ok(())
+    }
+
+    // Puts a definition in its table's place, and keeps the one before. Takes no memory.
+    fn redefine(&mut self, tx: TxId, placed: PlacedDef)
+        requires { IsPlaced self.old.defs placed }
+        ensures { self.new ≡ redefined tx placed.def self.old }
+    {
+        let replaced = Some(self.defs.replace(placed));
+        self.creator = Some(Creator { tx, replaced });
     }
 
     /// Takes back what the transaction made: the definitions are what they were before, and its rows are

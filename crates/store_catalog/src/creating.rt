@@ -7,7 +7,7 @@ ghost use Rattle.spec_model.specs.Refusals.{MatchesUnlessOom};
 ghost use Rattle.store_catalog.specs.Definitions.{AreFormed};
 ghost use Rattle.store_catalog.specs.WorkedOut.{IsNewIndex, IsNewTable};
 
-use crate::named_defs::NamedDefs;
+use crate::named_defs::{NamedDefs, PlacedDef};
 use crate::rows::{NewRows, new_rows};
 use base_types::{Memory, TableId, TxId};
 use sql_check::{new_index, new_table};
@@ -30,11 +30,10 @@ pub(crate) struct NewTable {
     pub second: NewRows,
 }
 
-/// A definition with a new index, its place and a copy of it, and the index's rows in the table of columns.
+/// A definition with a new index, a copy of it, and the index's rows in the table of columns.
 #[derive(Drop)]
 pub(crate) struct NewIndex {
-    pub place: usize,
-    pub def: TableDef,
+    pub placed: PlacedDef,
     pub answer: TableDef,
     pub rows: NewRows,
 }
@@ -86,11 +85,16 @@ pub(crate) fn work_out_index(
     let index = new_index(alloc, def, part, create)?;
     let starts = index_starts(alloc, def, &index)?;
     let rows = new_rows(alloc, COLUMNS, tx, seq, starts)?;
-    let now = add_index(alloc, def, index)?;
-    let answer = copy_def(alloc, &now)?;
+    let place = def.id as usize - 1;
+    let def = add_index(alloc, def, index)?;
+    let answer = copy_def(alloc, &def)?;
+    let placed = PlacedDef {
+        place,
+        def,
+        names: None,
+    };
     Ok(NewIndex {
-        place: def.id as usize - 1,
-        def: now,
+        placed,
         answer,
         rows,
     })

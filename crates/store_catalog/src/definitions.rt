@@ -5,25 +5,18 @@ ghost use Rattle.spec_model.specs.Catalog.{Defs};
 ghost use Rattle.spec_protocol.specs.UndoVisits.{creator_left, defs_before};
 ghost use Rattle.store_catalog.specs.Definitions.{before, creator_seen, is_creator, AreFormed, IsPlace, MayTakeBack};
 
-use crate::named_defs::NamedDefs;
+use crate::named_defs::{NamedDefs, PlacedDef};
 use base_types::{Memory, TxId};
 use sql_system::copy_def;
 use sql_types::TableDef;
 use std::alloc::Global;
-
-/// A definition, and its place, in which there is another one now.
-#[derive(Drop)]
-pub(crate) struct ReplacedDef {
-    pub place: usize,
-    pub def: TableDef,
-}
 
 /// The transaction that changed the definitions and hasn't released the catalog. It replaced a definition,
 /// or added one behind the others.
 #[derive(Drop)]
 pub(crate) struct Creator {
     pub tx: TxId,
-    pub replaced: Option<ReplacedDef>,
+    pub replaced: Option<PlacedDef>,
 }
 
 /// Copies of the definitions.
@@ -42,14 +35,14 @@ pub(crate) fn copy_defs(alloc: Global, defs: &[TableDef]) -> Result<Vec<TableDef
 pub(crate) fn copy_before(
     alloc: Global,
     defs: &[TableDef],
-    replaced: &Option<ReplacedDef>,
+    replaced: &Option<PlacedDef>,
 ) -> Result<Vec<TableDef>, Memory>
     requires { IsPlace defs.now replaced.now }
     ensures { IfOk result (λ copies. copies.items ≡ before defs.now replaced.now) }
 {
     let mut copies = copy_defs(alloc, defs)?;
     match replaced {
-        Some(ReplacedDef { place, def }) => copies[*place] = copy_def(alloc, def)?,
+        Some(PlacedDef { place, def, .. }) => copies[*place] = copy_def(alloc, def)?,
         None => {
             copies.pop();
         }
@@ -66,13 +59,13 @@ fn is_creator(creator: &Option<Creator>, tx: TxId) -> bool
     }
 }
 
-fn take_back(defs: &mut NamedDefs, replaced: Option<ReplacedDef>)
+fn take_back(defs: &mut NamedDefs, replaced: Option<PlacedDef>)
     requires { IsPlace defs.old replaced }
     ensures { defs.new ≡ before defs.old replaced }
 {
     match replaced {
-        Some(ReplacedDef { place, def }) => {
-            defs.replace(place, def);
+        Some(replaced) => {
+            defs.replace(replaced);
         }
         None => defs.pop(),
     }

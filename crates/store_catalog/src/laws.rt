@@ -13,6 +13,7 @@ ghost use Rattle.sql_types.specs.declared.table.Part.TheVariants.{System};
 ghost use Rattle.sql_types.specs.declared.table.TableDef.{TableDef};
 ghost use Rattle.spec_history.specs.Lists.{Text};
 ghost use Rattle.spec_history.specs.Transactions.{committed, ended};
+ghost use Rattle.spec_model.specs.Alter.{Altered};
 ghost use Rattle.spec_model.specs.Catalog.{find_part};
 ghost use Rattle.spec_model.specs.Create.{create_check, index_check, with_index};
 ghost use Rattle.spec_model.specs.Effect.{query_rows};
@@ -20,7 +21,7 @@ ghost use Rattle.spec_model.specs.Locks.{catalog_request, whole};
 ghost use Rattle.spec_model.specs.Query.{query_check};
 ghost use Rattle.spec_model.specs.SystemTables.{columns_id};
 ghost use Rattle.spec_protocol.specs.CatalogVisits as visits;
-ghost use Rattle.spec_protocol.specs.CatalogVisits.{with_new_index, with_system_leaves, with_table, CreateRefused};
+ghost use Rattle.spec_protocol.specs.CatalogVisits.{alters_in, with_altered, with_altered_leaves, with_new_index, with_system_leaves, with_table, CreateRefused};
 ghost use Rattle.spec_protocol.specs.Cells.{CatalogCell as SpecCell, catalog_at, versions_in, Catalog};
 ghost use Rattle.spec_protocol.specs.Doing.{done, events_from, grown, rows_reply, Stopped};
 ghost use Rattle.spec_protocol.specs.LocksCover.{name_of};
@@ -77,7 +78,20 @@ pub fn creating_an_index_is_a_visit()
         → visits.CreatesIndex v c s d t }
 {}
 
-/// To lock for X and to be refused by the checks is the visit of a CREATE that is refused; the X stays.
+/// To lock for X and to alter or drop a table is the visit of ALTER TABLE and of DROP TABLE.
+pub fn altering_a_table_is_a_visit()
+    ensures { (v : Server) (c l d : SpecCell) (s t : SeatState) (o : OpenTransaction) (at : InOpenTransaction v s o)
+        (a : Altered) (fresh : Bool)
+        → at.stands.stage ≡ begun → o.explicit ≡ false
+        → LocksTaken c o.id (whole X ∷ []) fresh l → alters_in l at.stands.stmt ≡ Some (Ok a)
+        → d ≡ with_altered o.id o.seq a l.holds l
+        → t ≡ done s at.stands (noting (o.seq + length a.first + length a.second)
+        (with_altered_leaves o.id o.seq a.first d o.trees) (visiting catalog_at o)) reply.Made
+        → visits.AltersTable v c s d t }
+{}
+
+/// To lock for X and to be refused by the checks is the visit of a statement that creates, alters or drops and
+/// is refused; the X stays.
 pub fn refusing_a_create_is_a_visit()
     ensures { (v : Server) (c d : SpecCell) (s t : SeatState) (o : OpenTransaction) (at : InOpenTransaction v s o)
         (e : Refusal) (fresh : Bool)

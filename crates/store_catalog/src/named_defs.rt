@@ -1,11 +1,11 @@
 //! The definitions of all tables, and where each name leads.
 
-ghost use Rattle.std.specs.Prelude.{ℕ, ◌≡◌, ◌≤◌, ◌<◌, ◌-◌, ◌++◌, ◌∷◌, [], IfOk, OnOk, OnErr, get_or, length, option_map, slice_set, take};
+ghost use Rattle.std.specs.Prelude.{ℕ, ◌≡◌, ◌≤◌, ◌<◌, ◌-◌, ◌++◌, ◌∷◌, [], IfOk, OnOk, OnErr, get_or, length, option_map, slice_set, take, unwrap_or};
 ghost use Rattle.std.specs.Str.{bytes_eq};
 ghost use Rattle.indexmap.specs.IndexMap.{insert_all};
 ghost use Rattle.sql_types.specs.declared.table.Part.{Part as SpecPart};
 ghost use Rattle.spec_model.specs.Catalog.{find_part};
-ghost use Rattle.store_catalog.specs.Names.{leading, names_at, HasNewNames, MayReplace};
+ghost use Rattle.store_catalog.specs.Names.{leading, names_at, names_from, HasNewNames, MayReplace};
 
 use base_types::{Memory, Name};
 use indexmap::IndexMap;
@@ -22,12 +22,24 @@ pub(crate) struct NamedPlace {
     pub part: Part,
 }
 
+/// Where each name leads, in the order of the definitions.
+pub(crate) type Names = IndexMap<Name, NamedPlace>;
+
+/// A definition for a place. Where its names are other than those of the one there, it comes with the names of
+/// all tables once it stands there.
+#[derive(Drop)]
+pub(crate) struct PlacedDef {
+    pub place: usize,
+    pub def: TableDef,
+    pub names: Option<Names>,
+}
+
 /// The definitions in the order in which their tables were made, and a map of their names in the same order.
 /// Contracts see the list of the definitions.
 #[derive(Drop)]
 pub(crate) struct NamedDefs {
     defs: Vec<TableDef>,
-    names: IndexMap<Name, NamedPlace>,
+    names: Names,
 }
 
 impl Model for NamedDefs {
@@ -43,12 +55,7 @@ impl Model for NamedDefs {
 }
 
 // Adds a name that leads to this part of the table at this place; what is empty is no name.
-fn add_name(
-    names: &mut IndexMap<Name, NamedPlace>,
-    name: &Name,
-    place: usize,
-    part: Part,
-) -> Result<(), Memory>
+fn add_name(names: &mut Names, name: &Name, place: usize, part: Part) -> Result<(), Memory>
     ensures { OnOk result (names.new.entries
         ≡ insert_all bytes_eq names.old.entries (leading name.now place part)) }
 {
@@ -58,19 +65,63 @@ fn add_name(
     Ok(())
 }
 
+// Adds the names of the table at this place.
+fn add_names(names: &mut Names, place: usize, def: &TableDef) -> Result<(), Memory>
+    ensures { OnOk result (names.new.entries
+        ≡ insert_all bytes_eq names.old.entries (names_at place def.now)) }
+{
+    add_name(names, &def.name, place, own_part(def))?;
+    add_name(names, &def.history, place, Part::History)?;
+    add_name(names, &def.view, place, Part::View)
+}
+
 // The names of the table at this place.
-fn names_of(
-    alloc: Global,
-    place: usize,
-    def: &TableDef,
-) -> Result<IndexMap<Name, NamedPlace>, Memory>
+fn names_of(alloc: Global, place: usize, def: &TableDef) -> Result<Names, Memory>
     ensures { IfOk result (λ names. names.entries ≡ insert_all bytes_eq [] (names_at place def.now)) }
 {
     let mut names = IndexMap::new(alloc);
-    add_name(&mut names, &def.name, place, own_part(def))?;
-    add_name(&mut names, &def.history, place, Part::History)?;
-    add_name(&mut names, &def.view, place, Part::View)?;
+    add_names(&mut names, place, def)?;
     Ok(names)
+}
+
+// The definition there, once this one stands at its place.
+fn def_there<'a>(
+    defs: &'a [TableDef],
+    there: usize,
+    place: usize,
+    def: &'a TableDef,
+) -> &'a TableDef
+    requires { there < length defs.now }
+    ensures { result.now ≡ get_or (slice_set defs.now place def.now) there result.now }
+{
+    if there == place { def } else { &defs[there] }
+}
+
+// Adds the names of all tables, once this definition stands at its place.
+fn add_all_names(
+    names: &mut Names,
+    defs: &[TableDef],
+    place: usize,
+    def: &TableDef,
+) -> Result<(), Memory>
+    ensures { OnOk result (names.new.entries
+        ≡ insert_all bytes_eq names.old.entries (names_from 0 (slice_set defs.now place def.now))) }
+{
+    for there in 0..defs.len() {
+        add_names(names, there, def_there(defs, there, place, def))?;
+    }
+    Ok(())
+}
+
+// Puts these names, where there are some, in the place of those, which it gives.
+fn replace_names(names: &mut Names, new: Option<Names>) -> Option<Names>
+    ensures after { names.new ≡ unwrap_or new names.old }
+    ensures before { result ≡ option_map (λ n. names.old) new }
+{
+    match new {
+        Some(new) => Some(mem::replace(names, new)),
+        None => None,
+    }
 }
 
 // 1 for a name, and 0 for what is empty.
@@ -136,13 +187,34 @@ impl NamedDefs {
         }
     }
 
-    /// Puts a definition in the place of one with the same names, which it gives. Takes no memory.
-    pub(crate) fn replace(&mut self, place: usize, def: TableDef) -> TableDef
-        requires { MayReplace self.old place def }
-        ensures after { self.new ≡ slice_set self.old place def }
-        ensures before { result ≡ get_or self.old place result }
+    /// The names of all tables, once this definition with new names stands at its place.
+    pub(crate) fn names_with(
+        &self,
+        alloc: Global,
+        place: usize,
+        def: &TableDef,
+    ) -> Result<Names, Memory>
+        requires { HasNewNames self.now def.now }
+        ensures { IfOk result (λ names. names.entries ≡ names_from 0 (slice_set self.now place def.now)) }
     {
-        mem::replace(&mut self.defs[place], def)
+        let mut names = IndexMap::with_capacity(alloc, self.names.len())?;
+        add_all_names(&mut names, &self.defs, place, def)?;
+        Ok(names)
+    }
+
+    /// Puts a definition in its place, and the names that come with it in that of those before, and gives what
+    /// was there, which may come back. Takes no memory.
+    pub(crate) fn replace(&mut self, new: PlacedDef) -> PlacedDef
+        requires { MayReplace self.old new }
+        ensures after { self.new ≡ slice_set self.old new.place new.def }
+        ensures place { result.place ≡ new.place }
+        ensures before { result.def ≡ get_or self.old new.place result.def }
+        ensures back { MayReplace self.new result }
+    {
+        let PlacedDef { place, def, names } = new;
+        let def = mem::replace(&mut self.defs[place], def);
+        let names = replace_names(&mut self.names, names);
+        PlacedDef { place, def, names }
     }
 }
 

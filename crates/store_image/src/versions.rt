@@ -6,6 +6,7 @@ ghost use Rattle.store_image.specs.Known.{has_in, kept_by};
 
 use crate::ids::CommittedTxs;
 use base_types::{Items, Memory};
+use format_image_rows::copy_stored;
 use sql_types::{EventId, TypedValue, Version};
 use std::alloc::Global;
 
@@ -78,19 +79,7 @@ fn copy_values(
 {
     let mut copies = Vec::with_capacity(alloc, values.len())?;
     for value in values {
-        copies.push(copy_value(value)?)?;
+        copies.push(copy_stored(value)?)?;
     }
     Ok(Items::from_vec(copies))
-}
-
-fn copy_value(value: &Option<TypedValue>) -> Result<Option<TypedValue>, Memory>
-    ensures { IfOk result (λ copy. copy ≡ value.now) }
-{
-    match value {
-        Some(typed) => Ok(Some(TypedValue {
-            ty: typed.ty,
-            value: typed.value.copy()?,
-        })),
-        None => Ok(None),
-    }
 }

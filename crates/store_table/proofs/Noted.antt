@@ -30,7 +30,7 @@ all_elsewhere id table (l ∷ ls) trees ne = all_elsewhere id table ls (with_lea
 
 -- ---- all at once
 
-grown_here : (table : ℕ) (es : List Event) (trees : List Tree) → leaves_in table (grown table es trees) ≡ leaves_in table trees ++ map event_bytes es
+pub grown_here : (table : ℕ) (es : List Event) (trees : List Tree) → leaves_in table (grown table es trees) ≡ leaves_in table trees ++ map event_bytes es
 grown_here table es [] = rw (eq-eqb table table refl) refl
 grown_here table es (t ∷ ts) = by (t.table == table) refl (grown_here table es ts)
   where

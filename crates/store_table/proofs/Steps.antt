@@ -12,6 +12,7 @@ use Rattle.spec_model.specs.Rows.{EventId, with_end}
 use Rattle.spec_model.specs.Runs.{MadeBefore, Rising}
 use Rattle.law_frame.proofs.Alls.{all_append}
 use Rattle.law_frame.proofs.Sounds.{rising_changed}
+use Rattle.law_frame.proofs.UndoneTables.{first_few as all_take}
 use Rattle.sql_apply.specs.Places.{place}
 use Rattle.sql_apply.proofs.Places.{started_at}
 use Rattle.store_table.specs.declared.index.Index.{Index}
@@ -161,11 +162,6 @@ one_index key vs o is i ordinals more kept of same =
     ∙ ap (λ (x : stored.Index). map index_seen o.indexes.items ++ x ∷ [])
     (ap₂ (λ (ns : List ℕ) (l : List EventId). record { ordinals = ns; order = l }) same
     (of ∙ ap (λ (ns : List ℕ). starts_of (in_order ns key vs)) same ∙ sym (index_order_is key ordinals vs kept.rising))))
-
-all_take : {A : Type 0} (P : A → Type 0) (n : ℕ) (xs : List A) → AllByRecursion P xs → AllByRecursion P (take n xs)
-all_take P zero xs h = tt
-all_take P (suc n) [] h = tt
-all_take P (suc n) (x ∷ xs) h = (h.0, all_take P n xs h.1)
 
 last_left : (is : List Index) (n : ℕ) → n + 1 ≡ length is → map index_seen (take n is) ≡ without_last (map index_seen is)
 last_left [] n e = absurd (omega (arith, e))

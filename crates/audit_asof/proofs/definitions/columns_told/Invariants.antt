@@ -5,5 +5,5 @@ use Rattle.audit_asof.proofs.definitions.columns_told.Given as goal
 
 abbrev pub invariant-loop-place : goal.invariant-loop-place
 invariant-loop-place l =
-    l.told.items ++ columns_from (rows_seen l.rows) l.id (l.place + 1) (drop l.place l.columns)
-    ≡ columns_from (rows_seen l.rows) l.id 1 l.columns
+    l.told.items ++ columns_from (rows_seen l.rows) (l.place + 1) (drop l.place l.columns)
+    ≡ columns_from (rows_seen l.rows) 1 l.columns

@@ -1,8 +1,8 @@
 use Rattle.std.proofs.Common.{◌≡◌, ◌++◌, ◌∙◌, List, [], append-nil, ap, ap₂, arith, inl, inr, sym}
 use Rattle.sql_types.specs.declared.image.TableRows.{TableRows}
 use Rattle.spec_model.specs.Catalog.{Defs, Tables}
+use Rattle.spec_model.specs.Lists.{is_among}
 use Rattle.audit_definitions.specs.DefinitionRows.{rows_in}
-use Rattle.law_catalog_rows.specs.IsEncodableDef.{is_among}
 use Rattle.spec_asof.specs.DatabaseAt.{users_at}
 use Rattle.audit_asof.proofs.Users.{go_on, no_defs, none_left}
 use Rattle.audit_asof.proofs.tables.users_at.Goals as goal

@@ -1,6 +1,6 @@
 use Rattle.std.proofs.Common.{◌≡◌, ◌++◌}
+use Rattle.spec_model.specs.Lists.{is_among}
 use Rattle.audit_definitions.specs.DefinitionRows.{rows_in}
-use Rattle.law_catalog_rows.specs.IsEncodableDef.{is_among}
 use Rattle.spec_asof.specs.DatabaseAt as spec
 use Rattle.audit_asof.proofs.tables.users_at.Given as goal
 

@@ -1,5 +1,5 @@
 use Rattle.std.proofs.Common.{◌≡◌, ◌++◌, flat_map}
-use Rattle.law_catalog_rows.specs.IsEncodableDef.{is_among}
+use Rattle.spec_model.specs.Lists.{is_among}
 use Rattle.audit_asof.specs.Kept.{kept_by}
 use Rattle.audit_asof.proofs.versions.keep_all.Given as goal
 

@@ -1,8 +1,7 @@
 use Rattle.std.proofs.Common.{◌≡◌, ◌+◌, ◌==◌, drop}
 use Rattle.std.specs.List.{list_all}
 use Rattle.std.specs.Prelude.{◌||◌, not}
-use Rattle.spec_model.specs.Lists.{numbered}
-use Rattle.law_catalog_rows.specs.IsEncodableDef.{is_among}
+use Rattle.spec_model.specs.Lists.{numbered, is_among}
 use Rattle.audit_definitions.proofs.rules.are_without_key.Given as goal
 
 abbrev pub invariant-loop-place : goal.invariant-loop-place

@@ -1,5 +1,5 @@
 use Rattle.std.proofs.Common.{◌≡◌, drop}
-use Rattle.law_catalog_rows.specs.IsEncodableDef.{rise_within}
+use Rattle.spec_model.specs.Lists.{rise_within}
 use Rattle.audit_definitions.proofs.rules.rise_within.Given as goal
 
 abbrev pub invariant-loop-n : goal.invariant-loop-n

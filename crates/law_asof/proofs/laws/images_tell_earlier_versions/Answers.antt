@@ -2,7 +2,7 @@ use Rattle.std.proofs.Common.{◌≡◌, ℕ, List, map, sym, subst}
 use Rattle.std.specs.List.{AllByRecursion}
 use Rattle.spec_model.specs.Catalog.{versions_of}
 use Rattle.spec_model.specs.Journals.{upto, serial}
-use Rattle.law_catalog_rows.specs.IsEncodableDef.{is_among}
+use Rattle.spec_model.specs.Lists.{is_among}
 use Rattle.format_image.specs.Rows.{filled_version, table_rows}
 use Rattle.spec_asof.specs.DatabaseAt.{versions_at}
 use Rattle.law_asof.proofs.Told.{all_left, first_are}

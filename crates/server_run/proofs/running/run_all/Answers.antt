@@ -1,7 +1,7 @@
 use Rattle.std.proofs.Common.{arith, refl}
 use Rattle.spec_syntax.specs.Text.{statement_of}
 use Rattle.format_sections.specs.RunSections.{run_sections_view}
-use Rattle.law_server.proofs.Servers.{some_server, statements_are_steady}
+use Rattle.law_server.proofs.Servers.{some_server}
 use Rattle.server_result.specs.Moments.{IsMoment, said_with}
 use Rattle.law_concurrent.proofs.Said.{came_so}
 use Rattle.server_run.specs.CameTo.{input_of}
@@ -20,7 +20,7 @@ run_over-requires-clause-numbers g c κs within =
 pub left_by-requires : goal.left_by-requires
 left_by-requires g c =
     let h = g.H.Hash32.digest c.args.hasher in
-    let v = some_server h statement_of statements_are_steady in
+    let v = some_server h statement_of in
     cells_stand h ((g.met.H.Hash32 g.world.𝓛 g.world.𝓜 g.world.𝓡 ((λ s x. x), (λ x. x), (λ x. x), λ x. x)).sized c.args.hasher)
     c.args.how.database.now c.args.how.block_size (said_with c.args.how.clock (g.C.Clock.says c.args.clock.now)) c.args.all_sections.now
     (record { server = v.0; database = c.args.how.database.now; size = c.args.how.block_size }) v.1 refl refl
@@ -34,7 +34,7 @@ returns g c =
     let size = c.args.how.block_size in
     let says = said_with c.args.how.clock (g.C.Clock.says c.args.clock.now) in
     let all_sections = c.args.all_sections.now in
-    let v = some_server h statement_of statements_are_steady in
+    let v = some_server h statement_of in
     let f = c.in_ok-finished.finished in
     let fin = c.in_ok-finished.ensures in
     let r = c.in_ok-ran.ran in

@@ -3,7 +3,7 @@ use Rattle.spec_model.specs.LegalJournals.{IsLegalJournal}
 use Rattle.spec_syntax.specs.Text.{statement_of}
 use Rattle.format_sections.specs.RunSections.{run_sections_view}
 use Rattle.format_sections.specs.declared.all_sections.RunSections.{RunSections}
-use Rattle.law_server.proofs.Servers.{some_server, statements_are_steady}
+use Rattle.law_server.proofs.Servers.{some_server}
 use Rattle.server_result.specs.Moments.{IsMoment, said_with}
 use Rattle.law_concurrent.proofs.Said.{came_so}
 use Rattle.server_board.specs.ServedDatabase.{ServedDatabase}
@@ -30,11 +30,11 @@ run_over-requires-clause-numbers g c κs within =
 
 -- the run of the plan on some server, and the cells and seats that it left
 abbrev served : (h : List ℕ → List ℕ) (database : List ℕ) (size : ℕ) → ServedDatabase
-served h database size = record { server = (some_server h statement_of statements_are_steady).0; database = database; size = size }
+served h database size = record { server = (some_server h statement_of).0; database = database; size = size }
 
 beside : (h : List ℕ → List ℕ) (database : List ℕ) (size : ℕ) (says : ℕ → Type 0) (all_sections : RunSections) (f : FinishedRun) (fin : HasFinished (served h database size) says (texts_in all_sections.setup.items) all_sections.sessions.items f)
     → StandBeside h f.cells.items (served h database size) fin.seats fin.j fin.s
-beside h database size says all_sections f fin = record { serves = (some_server h statement_of statements_are_steady).1; stands = fin.stands; there = fin.there }
+beside h database size says all_sections f fin = record { serves = (some_server h statement_of).1; stands = fin.stands; there = fin.there }
 
 pub close_all-requires-after_bounds : goal.close_all-requires-after_bounds
 close_all-requires-after_bounds g c κs within =
@@ -75,7 +75,7 @@ left_closed-requires-clause-stand g c κs within =
     let f = c.in_ok-finished.finished in
     let closed : FinishedRun = record { cells = c.close_all.new.cells; setup = f.setup; ends = f.ends } in
     cells_stand h ((g.met.H.Hash32 g.world.𝓛 g.world.𝓜 g.world.𝓡 ((λ s x. x), (λ x. x), (λ x. x), λ x. x)).sized c.args.hasher)
-    database size says all_sections (served h database size) (some_server h statement_of statements_are_steady).1 refl refl closed
+    database size says all_sections (served h database size) (some_server h statement_of).1 refl refl closed
     (then_finished h database size says all_sections f closed c.in_ok-finished.ensures refl refl c.in_ok-close_all.ensures.stand)
 
 pub left_closed-requires-clause-keeps : goal.left_closed-requires-clause-keeps
@@ -98,7 +98,7 @@ returns g c =
     let closed : FinishedRun = record { cells = c.close_all.new.cells; setup = f.setup; ends = f.ends } in
     let fin = then_finished h database size says all_sections f closed c.in_ok-finished.ensures refl refl c.in_ok-close_all.ensures.stand in
     let d = served h database size in
-    let serves = (some_server h statement_of statements_are_steady).1 in
+    let serves = (some_server h statement_of).1 in
     let i = c.in_ok-ran.ensures in
     let issued = c.issued_digests_are_of_the_journal.ensures in
     let laws : Laws = record {

@@ -1,6 +1,6 @@
 use Rattle.std.proofs.Common.{sym, ap, subst, ◌∙◌, ℕ, List}
 use Rattle.std.specs.List.Sorted.{IsNonDecreasing}
-use Rattle.law_catalog_rows.specs.IsEncodableDef.{is_among}
+use Rattle.spec_model.specs.Lists.{is_among}
 use Rattle.audit_asof.proofs.Found.{tells}
 use Rattle.audit_asof.proofs.earlier_txs.EarlierTxs.has.Goals as goal
 

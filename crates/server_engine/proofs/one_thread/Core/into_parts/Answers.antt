@@ -5,7 +5,7 @@ use Rattle.spec_protocol.specs.Cells.{ledger_at}
 use Rattle.server_visits.specs.Images.{AreImageBytes, CellsStand}
 use Rattle.server_engine.proofs.Ends.{all_ended, cells_stand, has_left, image_is, ledger_within, room_is, room_over, second_is_ledger}
 use Rattle.server_engine.proofs.Pairs.{index_there}
-use Rattle.server_visits.proofs.Servers.{some_server, statements_are_steady}
+use Rattle.server_visits.proofs.Servers.{some_server}
 use Rattle.server_engine.proofs.one_thread.Core.into_parts.Goals as goal
 
 pub swap_remove-requires : goal.swap_remove-requires
@@ -38,7 +38,7 @@ returns g c = λ h a m.
     (ledger_within g.H.Hash32.digest h a c.args.self m) c.swap_remove.ensures.value in
     let there = here ∙ ap (λ u. some u) (sym c.into_ledger-ledger.ensures) in
     let ids = subst (λ n. n ≤ 2 ^ 63) c.next_id.ensures.id c.next_id.ensures.most in
-    let v = some_server (g.H.Hash32.digest h) statement_of statements_are_steady in
+    let v = some_server (g.H.Hash32.digest h) statement_of in
     has_left g.H.Hash32.digest h a c.args.self m ended l.cell l.hash there ids v.0 v.1 _
     c.into_parts-journal.ensures.version c.into_parts-journal.ensures.database c.into_parts-journal.ensures.items c.into_parts-journal.ensures.digests refl
     (image_is g.H.Hash32.digest h a c.args.self m ended l.cell l.hash there ids c.in_ok-image.image

@@ -3,14 +3,14 @@ use Rattle.spec_syntax.specs.Text.{statement_of}
 use Rattle.server_session.specs.Steps.{Begins}
 use Rattle.server_engine.proofs.Calls.{last_open, last_others}
 use Rattle.server_engine.proofs.Ends.{session_count, session_stands}
-use Rattle.server_visits.proofs.Servers.{some_server, statements_are_steady}
+use Rattle.server_visits.proofs.Servers.{some_server}
 use Rattle.server_engine.proofs.one_thread.Core.open_session.Goals as goal
 
 pub returns-clause-stands : goal.returns-clause-stands
 returns-clause-stands g c = λ h a m.
     let y = c.new_session.result in
     let is = c.new_session.ensures in
-    let v = some_server (g.H.Hash32.digest h) statement_of statements_are_steady in
+    let v = some_server (g.H.Hash32.digest h) statement_of in
     session_stands g.H.Hash32.digest h a c.args.self.now m c.args.name y
     (λ w s present rests. subst (λ x. Begins g.H.Hash32.digest x w c.args.name s y.seat) m.hasher (is.begins w s present rests))
     is.between is.name is.entries is.images v.0 v.1 _ refl refl c.in_ok-push.ensures.items

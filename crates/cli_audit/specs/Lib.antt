@@ -1,0 +1,15 @@
+pub mod Answer
+pub mod AsOf
+pub mod Calls
+pub mod Check
+pub mod Evidence
+pub mod Extract
+pub mod Files
+pub mod Names
+pub mod Receipt
+pub mod Replay
+pub mod Status
+pub mod Tell
+pub mod Transfer
+pub mod Upgrade
+pub mod Verify

@@ -1,0 +1,143 @@
+//! Whether a receipt is accepted with the digests that an auditor holds.
+
+ghost use Rattle.std.specs.Prelude.{⊤, ◌≡◌, ◌⊎◌, IfOk, IfErr, IfSome};
+ghost use Rattle.base_io.specs.Count.{Rises};
+ghost use Rattle.base_io.specs.History.{Since};
+ghost use Rattle.audit_any_receipt.specs.Kinds.{Spells};
+ghost use Rattle.cli_audit.specs.Answer.{Unfailed};
+ghost use Rattle.cli_audit.specs.Calls.{AreGets, AreWrites, Gave};
+ghost use Rattle.cli_audit.specs.Check.{receipt_limit, IsCheckedOn, LacksCheck, IsChecked, LacksAnswer};
+ghost use Rattle.cli_audit.specs.Check.{check_text, CheckCause, Checks, ShowsClaim, LacksReceiptForm};
+ghost use Rattle.cli_audit.specs.Evidence.{AreUnder, LacksEither};
+ghost use Rattle.cli_audit.specs.Verify.{SaidOrIdle};
+
+use crate::Status;
+use crate::names::{DIGESTS_LIMIT, read_name};
+use crate::transfer::write_all;
+use crate::verify::read_held;
+use audit_any_receipt::{
+    AnyReceipt, accepted_receipts_are_never_contradicted, check_any, read_any,
+};
+use base_io::{Failed, Sink, Vault};
+use base_merkle::Hash32;
+use base_types::Memory;
+use std::alloc::Global;
+
+/// The most bytes that a receipt may have: 16 MiB.
+const RECEIPT_LIMIT: usize = 16777216;
+
+/// What stands under the two names.
+#[derive(Drop)]
+struct Claim {
+    receipt: Vec<u8>,
+    digests: Vec<u8>,
+}
+
+/// Reads what stands under the two names, the receipt's first.
+fn read_claim<V: Vault>(vault: &mut V, receipt: &str, digests: &str) -> Result<Claim, Status>
+    ensures are { IfOk result (λ read. IfSome (V.names vault.old)
+        (λ names. AreUnder receipt_limit receipt.now digests.now names read.receipt.items read.digests.items)) }
+    ensures lacks { IfErr result
+        (λ status. LacksEither status receipt_limit receipt.now digests.now (V.names vault.old)) }
+    ensures same { V.names vault.new ≡ V.names vault.old }
+    ensures gave { IfOk result (λ read. Since (V.history vault.old) (V.history vault.new) (Gave 2)) }
+    ensures gets { IfErr result
+        (λ status. Since (V.history vault.old) (V.history vault.new) (AreGets 2 status)) }
+    ensures calm { IfOk result (λ read. V.faults vault.new ≡ V.faults vault.old) }
+    ensures unfailed { IfErr result
+        (λ status. Unfailed status ⊤ (V.faults vault.new ≡ V.faults vault.old) ⊤) }
+    ensures cause { IfErr result
+        (λ status. status ≡ Status.VaultFault → Rises (V.faults vault.old) (V.faults vault.new)) }
+{
+    let receipt = read_name(vault, receipt, 1, RECEIPT_LIMIT)?;
+    let digests = read_name(vault, digests, 2, DIGESTS_LIMIT)?;
+    Ok(Claim { receipt, digests })
+}
+
+/// The receipt whose bytes these are.
+fn receipt_of(alloc: Global, bytes: &[u8]) -> Result<AnyReceipt, Status>
+    ensures spelled { IfOk result (Spells bytes.now) }
+    ensures refused { IfErr result (λ status. LacksReceiptForm status bytes.now) }
+{
+    match read_any(alloc, bytes) {
+        Ok(Some(receipt)) => Ok(receipt),
+        Ok(None) => Err(Status::Receipt),
+        Err(Memory) => Err(Status::Memory),
+    }
+}
+
+/// Whether these bytes are an accepted receipt's, with the digests of this file.
+fn judge<H: Hash32>(alloc: Global, h: H, bytes: &[u8], digests: &[u8]) -> Result<bool, Status>
+    ensures checked { IfOk result (IsCheckedOn (H.digest h) bytes.now digests.now) }
+    ensures lacks { IfErr result (λ status. LacksCheck status bytes.now digests.now) }
+{
+    let receipt = receipt_of(alloc, bytes)?;
+    let held = read_held(alloc, digests)?;
+    match check_any(alloc, h, &receipt, held.as_slice()) {
+        Ok(so) => Ok(so),
+        Err(Memory) => Err(Status::Memory),
+    }
+}
+
+/// Whether an accepted receipt stands under the name, with the digests under the other.
+fn judge_names<H: Hash32, V: Vault>(
+    alloc: Global,
+    h: H,
+    receipt: &str,
+    digests: &str,
+    vault: &mut V,
+) -> Result<bool, Status>
+    ensures checked { IfOk result (IsChecked (H.digest h) receipt.now digests.now (V.names vault.old)) }
+    ensures lacks { IfErr result (λ status. LacksAnswer status receipt.now digests.now (V.names vault.old)
+        (Rises (V.faults vault.old) (V.faults vault.new))) }
+    ensures same { V.names vault.new ≡ V.names vault.old }
+    ensures gave { IfOk result (λ so. Since (V.history vault.old) (V.history vault.new) (Gave 2)) }
+    ensures gets { IfErr result
+        (λ status. Since (V.history vault.old) (V.history vault.new) (AreGets 2 status)) }
+    ensures calm { IfOk result (λ so. V.faults vault.new ≡ V.faults vault.old) }
+    ensures unfailed { IfErr result
+        (λ status. Unfailed status ⊤ (V.faults vault.new ≡ V.faults vault.old) ⊤) }
+{
+    let claim = read_claim(vault, receipt, digests)?;
+    judge(alloc, h, &claim.receipt, &claim.digests)
+}
+
+/// The line that is written.
+fn text_of(so: bool) -> &'static str
+    ensures { result.now ≡ check_text so }
+{
+    if so { "Yes\n" } else { "No receipt\n" }
+}
+
+/// Says whether the receipt under a name is accepted with the digests under another.
+pub fn check_receipt<H: Hash32, K: Sink, V: Vault>(
+    alloc: Global,
+    h: H,
+    receipt: &str,
+    digests: &str,
+    sink: &mut K,
+    vault: &mut V,
+) -> Status
+    ensures cause { CheckCause result (H.digest h) receipt.now digests.now (V.names vault.old)
+        (Rises (V.faults vault.old) (V.faults vault.new))
+        (Rises (K.faults sink.old) (K.faults sink.new) ⊎ Rises (K.stalls sink.old) (K.stalls sink.new)) }
+    ensures checked { SaidOrIdle result
+        (Checks result (H.digest h) receipt.now digests.now
+        (V.names vault.old) (K.taken sink.old) (K.taken sink.new)) (sink.new ≡ sink.old) }
+    ensures shows { result ≡ Status.Done → ShowsClaim (H.digest h) receipt.now digests.now (V.names vault.old) }
+    ensures same { V.names vault.new ≡ V.names vault.old }
+    ensures gets { Since (V.history vault.old) (V.history vault.new) (AreGets 2 result) }
+    ensures writes { Since (K.history sink.old) (K.history sink.new) (AreWrites result) }
+    ensures unfailed { Unfailed result ⊤ (V.faults vault.new ≡ V.faults vault.old)
+        ((K.faults sink.new ≡ K.faults sink.old) × (K.stalls sink.new ≡ K.stalls sink.old)) }
+{
+    accepted_receipts_are_never_contradicted();
+    let so = match judge_names(alloc, h, receipt, digests, vault) {
+        Ok(so) => so,
+        Err(status) => return status,
+    };
+    if let Err(Failed) = write_all(sink, text_of(so).as_bytes()) {
+        return Status::SinkFault;
+    }
+    if so { Status::Done } else { Status::No }
+}

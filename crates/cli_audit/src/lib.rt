@@ -1,0 +1,28 @@
+//! The commands that read images, journals and receipts, with what they share with all others: how a call ends, and
+//! how an input is read, names are looked up, files are put and a text is written.
+#![tactic(auto)]
+
+mod asof;
+mod check;
+mod extract;
+mod files;
+mod names;
+mod receipt;
+mod replay;
+mod status;
+mod tell;
+mod transfer;
+mod upgrade;
+mod verify;
+
+pub use asof::answer_as_of;
+pub use check::check_receipt;
+pub use extract::compare_images;
+pub use files::{File, file_of, image_file, put_and_write};
+pub use receipt::make_receipt;
+pub use replay::replay_journal;
+pub use status::Status;
+pub use tell::tell_text;
+pub use transfer::{INPUT_LIMIT, ReadErr, read_input};
+pub use upgrade::upgrade_image;
+pub use verify::verify_image;

@@ -1,5 +1,0 @@
-use Rattle.cli_commands.proofs.AsOfLemmas.{ends_refusing}
-use Rattle.cli_commands.proofs.asof.say.Goals as goal
-
-pub returns-in-Refused-clause-ends : goal.returns-in-Refused-clause-ends
-returns-in-Refused-clause-ends g c = rw c.in-Refused.is (ends_refusing c.in-Refused.verdict _ _ _ _ c.refuse.result c.refuse.ensures.ends)

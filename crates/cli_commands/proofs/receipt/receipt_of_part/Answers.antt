@@ -1,4 +1,0 @@
-use Rattle.cli_commands.proofs.receipt.receipt_of_part.Goals as goal
-
-pub returns-clause-shown : goal.returns-clause-shown
-returns-clause-shown g c = rw c.wanted_of-wanted.ensures at c.receipt.ensures.shown
