@@ -5,7 +5,9 @@ pub mod Ends
 pub mod FirstCells
 pub mod Holding
 pub mod Midways
+pub mod LastLines
 pub mod OneServer
+pub mod Outside
 pub mod Pairs
 pub mod Pending
 pub mod Texts

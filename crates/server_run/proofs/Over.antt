@@ -1,8 +1,8 @@
 -- A session is over, and its transcript is written behind those that its seat has.
-use Rattle.std.proofs.Common.{◌≡◌, ℕ, List, [], ◌∷◌, ◌++◌, Option, Some, None, append-nil, length, map, take, refl, sym, ap, subst, ◌∙◌}
+use Rattle.std.proofs.Common.{◌≡◌, ℕ, List, [], ◌∷◌, ◌++◌, Option, Some, None, append-nil, length, map, take, refl, sym, ap, ap₂, subst, ◌∙◌}
 use Rattle.std.specs.Borrow.{Bor}
 use Rattle.spec_history.specs.Lists.{Text, Each}
-use Rattle.spec_history.specs.Transcripts.{Entry, EndLine, statements}
+use Rattle.spec_history.specs.Transcripts.{Entry, EndLine, statements, Transcript}
 use Rattle.spec_syntax.specs.Text.{statement_of}
 use Rattle.format_transcript.specs.TranscriptText.{entry_text}
 use Rattle.spec_protocol.specs.Serves.{Serves}
@@ -15,12 +15,13 @@ use Rattle.server_session.specs.Steps.{Ends, end_of, images_kept, last_entries}
 use Rattle.server_session.specs.declared.running.Running.{Running}
 use Rattle.server_session.specs.declared.stage.ControlPoint.{ControlPoint}
 use Rattle.server_session.specs.declared.stage.ControlPoint.TheVariants.{Between, Inside, Leaving, Over}
-use Rattle.server_engine.specs.Written.{LeavesSession}
+use Rattle.server_engine.specs.Written.{LeavesSession, texts_shown}
 use Rattle.server_engine.specs.declared.session.Session as core
 use Rattle.server_engine.proofs.AnonymousActs.{one_session}
-use Rattle.server_run.specs.Seated.{known_by, says_in, texts_in, under_way, IsAhead, IsSeated}
-use Rattle.server_run.specs.Wrote.{HasLeft, IsWritten, left_of}
+use Rattle.server_run.specs.Seated.{known_by, says_in, texts_in, under_way, HasSameKnowledge, IsAhead, IsSeated}
+use Rattle.server_run.specs.Wrote.{HasLeft, HasWritten, IsWritten, left_of}
 use Rattle.server_run.specs.declared.worker.Job.{Job}
+use Rattle.server_run.specs.declared.worker.SessionEnd.{SessionEnd}
 use Rattle.server_run.proofs.Going.{all_answered}
 use Rattle.server_run.proofs.Seating.{at, statements_more, texts_more}
 
@@ -63,8 +64,9 @@ module _ {H C : Type 0} (digest : H → List ℕ → List ℕ) (says : C → ℕ
   texts_are = ap statements entries_are ∙ statements_more now.sits.x.transcript.entries last ∙ ap (λ (ts : List Text). statements now.sits.x.transcript.entries ++ ts) (no_statement (end_of y.seat.running))
       ∙ append-nil (statements now.sits.x.transcript.entries) ∙ all_answered digest says job v serves y n image s ahead (none_at_end y.seat.point y.seat.running y.seat.text ends) ∙ taken_all job.statements.now n all
 
-  shown : z.entries ≡ map (entry_text job.name.now) its_end.w.transcript.entries
-  shown = left.gained ∙ ap (λ (name : Text). y.entries ++ map (entry_text name) last) now.name ∙ ap (λ (ts : List Text). ts ++ map (entry_text job.name.now) last) now.entries
+  shown : texts_shown z ≡ map (entry_text job.name.now) its_end.w.transcript.entries
+  shown = ap₂ (λ (texts more : List Text). texts ++ more) left.entries
+      (ap₂ (λ (name : Text) (end : Option EndLine). map (entry_text name) (last_entries end)) (left.name ∙ now.name) left.last) ∙ ap (λ (ts : List Text). ts ++ map (entry_text job.name.now) last) now.entries
       ∙ sym (texts_more (entry_text job.name.now) now.sits.x.transcript.entries last) ∙ ap (map (entry_text job.name.now)) (sym entries_are)
 
   is_written : IsWritten (says_in says job) job.name.now (texts_in job.statements.now) (left_of (at job z n image)) its_end.w
@@ -88,3 +90,21 @@ module _ {H C : Type 0} (digest : H → List ℕ → List ℕ) (says : C → ℕ
       earlier = its_end.earlier ∙ ap (λ (x : Session). x.earlier) was ∙ now.earlier;
     };
   }
+
+-- what was written of a session is written of whoever has the same of it, for the same job, behind the same
+pub written_for : {H C : Type 0} (says : C → ℕ → Type 0) (i j : Job H C) (a b : SessionEnd) (s t : SeatState) (u : SeatState) → i ≡ j → HasSameKnowledge s t → b.entries ≡ a.entries → b.images ≡ a.images
+    → HasWritten (says_in says i) i.name.now (texts_in i.statements.now) a (known_by t) t.written u → HasWritten (says_in says j) j.name.now (texts_in j.statements.now) b (known_by s) s.written u
+written_for {H} {C} says i j a b s t u same knowledge entries images h =
+    subst (λ (k : Job H C). HasWritten (says_in says k) k.name.now (texts_in k.statements.now) b (known_by s) s.written u) same (record {
+      w = h.w;
+      role = h.role;
+      wrote = h.wrote ∙ ap (λ (ws : List Written). ws ++ h.w ∷ []) knowledge.written;
+      is = record {
+        session = h.is.session;
+        texts = h.is.texts;
+        entries = entries ∙ h.is.entries;
+        images = images ∙ h.is.images;
+        moments = h.is.moments;
+      };
+      earlier = h.earlier ∙ knowledge.known;
+    })

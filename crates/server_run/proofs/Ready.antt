@@ -18,7 +18,8 @@ none_left (Inside stage) r b e = absurd b
 none_left Leaving r b e = absurd b
 none_left Over r b e = absurd b
 
-finishing_ends : {H : Type 0} (r : Option (Running H)) (y z : Seat H) → FinishesBy r y z → MayEndSession z ⊎ IsLeaving z
+-- a session comes to its end
+pub finishing_ends : {H : Type 0} (r : Option (Running H)) (y z : Seat H) → FinishesBy r y z → MayEndSession z ⊎ IsLeaving z
 finishing_ends None y z f = inl (none_left z.point z.running f.0 f.1)
 finishing_ends (Some r) y z f = inr f
 

@@ -117,12 +117,12 @@ module _ {H C : Type 0} (digest : H → List ℕ → List ℕ) (says : C → ℕ
 
   -- an image is put among those of the session
   pub seated_stored : (y z : core.Session H) (n : ℕ) (before after : Option KeptImage) (t : SeatState) → IsSeated digest says known written (at job y n before) t
-      → z.seat ≡ y.seat → z.entries ≡ y.entries → z.images ++ images_kept after ≡ y.images ++ images_kept before → IsSeated digest says known written (at job z n after) t
-  seated_stored y z n before after t w same entries images = subst (λ (u : core.Session H). IsSeated digest says known written (at job u n after) t) moved
+      → z.seat ≡ y.seat → z.entries ≡ y.entries → z.last ≡ y.last → z.images ++ images_kept after ≡ y.images ++ images_kept before → IsSeated digest says known written (at job z n after) t
+  seated_stored y z n before after t w same entries last images = subst (λ (u : core.Session H). IsSeated digest says known written (at job u n after) t) moved
       (record { sits = w.sits; name = w.name; texts = w.texts; entries = w.entries; images = w.images ∙ sym images; moments = w.moments; timed = w.timed; earlier = w.earlier; written = w.written })
     where
-      moved : record { seat = y.seat; entries = y.entries; images = z.images } ≡ z
-      moved = λ i. record { seat = sym same i; entries = sym entries i; images = z.images }
+      moved : record { seat = y.seat; entries = y.entries; last = y.last; images = z.images } ≡ z
+      moved = λ i. record { seat = sym same i; entries = sym entries i; last = sym last i; images = z.images }
 
 -- ---- what the board knows
 
@@ -141,9 +141,9 @@ module _ {H C : Type 0} (digest : H → List ℕ → List ℕ) (says : C → ℕ
 
 -- an image is put among those of the session
 pub stored_ahead : {H C : Type 0} (digest : H → List ℕ → List ℕ) (says : C → ℕ → Type 0) (job : Job H C) (v : Server) (y z : core.Session H) (n : ℕ) (before after : Option KeptImage) (s : SeatState) → IsAhead digest says v (at job y n before) s
-    → z.seat ≡ y.seat → z.entries ≡ y.entries → z.images ++ images_kept after ≡ y.images ++ images_kept before → IsAhead digest says v (at job z n after) s
-stored_ahead digest says job v y z n before after s ahead same entries images = record {
+    → z.seat ≡ y.seat → z.entries ≡ y.entries → z.last ≡ y.last → z.images ++ images_kept after ≡ y.images ++ images_kept before → IsAhead digest says v (at job z n after) s
+stored_ahead digest says job v y z n before after s ahead same entries last images = record {
   t = ahead.t;
   steps = ahead.steps;
-  seated = seated_stored digest says (known_by s) s.written job y z n before after ahead.t ahead.seated same entries images;
+  seated = seated_stored digest says (known_by s) s.written job y z n before after ahead.t ahead.seated same entries last images;
 }

@@ -7,6 +7,8 @@ use Rattle.spec_protocol.specs.Alone.{Alones}
 use Rattle.spec_protocol.specs.Seats.{idle, IsAtRest, SeatState, Written}
 use Rattle.spec_protocol.specs.Server.{Server}
 use Rattle.format_sections.specs.declared.section.Section.{Section}
+use Rattle.server_engine.specs.Written.{texts_shown}
+use Rattle.server_engine.specs.declared.session.Session.{Session}
 use Rattle.server_result.specs.Moments.{IsMoment}
 use Rattle.server_run.specs.Seated.{known_by, says_in, texts_in}
 use Rattle.server_run.specs.declared.worker.SessionEnd.{SessionEnd}
@@ -23,9 +25,13 @@ pub record IsWritten (says : ℕ → Type 0) (name : Text) (ran : List Text) (e 
 
 -- ---- one session
 
+-- what is left of a session that has no line more
+abbrev pub end_with : {H : Type 0} → Session H → SessionEnd
+end_with y = record { entries = y.entries; images = y.images }
+
 -- what the thread of a session has of it at the end
 abbrev pub left_of : {H C : Type 0} → Worker H C → SessionEnd
-left_of z = record { entries = z.session.entries; images = z.session.images }
+left_of z = record { entries = texts_shown z.session; images = z.session.images }
 
 -- The session is over, and this seat wrote its transcript behind these. When it began, its seat knew of these
 -- sessions that they were over.

@@ -8,11 +8,11 @@ ghost use Rattle.server_session.specs.ControlPoints.{IsBetween};
 ghost use Rattle.spec_protocol.specs.Serves.{Serves};
 ghost use Rattle.server_run.specs.AtBoard.{IsFree, IsFreed};
 ghost use Rattle.server_run.specs.Seated.{known_by, says_in, texts_in, IsAhead, IsIdle, HasSameKnowledge};
-ghost use Rattle.server_run.specs.Wrote.{HasWritten, left_of};
+ghost use Rattle.server_run.specs.Wrote.{HasWritten, end_with, left_of};
 
 use crate::settling::settle;
 use crate::shared::{Cells, ThreadSeat};
-use crate::visits::visit_needed;
+use crate::visits::{visit_needed, visit_to_end};
 use crate::worker::{Job, SessionEnd, Worker, begin};
 use base_io::{Clock, Gate};
 use base_merkle::Hash32;
@@ -84,7 +84,7 @@ fn run_statements<'a, K: Serving, H: Hash32, C: Clock, G: Gate, R: Wait>(
     Ok(())
 }
 
-/// Ends the session: where a transaction is open, it is ended too.
+/// Ends the session: where a transaction is open, it is ended too. Takes no memory.
 fn end_session<'a, K: Serving, H: Hash32, C: Clock, G: Gate, R: Wait>(
     rt: &R,
     alloc: Global,
@@ -92,7 +92,7 @@ fn end_session<'a, K: Serving, H: Hash32, C: Clock, G: Gate, R: Wait>(
     board: &Cells<K>,
     place: &mut ThreadSeat<K>,
     worker: &mut Worker<'a, H, C>,
-) -> Result<(), Memory>
+)
     requires free { IsFree board.now place.old }
     requires serves { Serves (H.digest worker.old.job.hasher) statement_of K.database.server }
     requires ahead { IsAhead H.digest C.says K.database.server worker.old (seat_state place.old) }
@@ -100,18 +100,17 @@ fn end_session<'a, K: Serving, H: Hash32, C: Clock, G: Gate, R: Wait>(
     requires all { worker.old.taken ≡ length worker.old.job.statements.now }
     requires image { worker.old.image ≡ None }
     ensures place { IsFreed place.old place.new }
-    ensures wrote { OnOk result (HasWritten (says_in C.says worker.old.job) worker.old.job.name.now
+    ensures wrote { HasWritten (says_in C.says worker.old.job) worker.old.job.name.now
         (texts_in worker.old.job.statements.now) (left_of worker.new) (known_by (seat_state place.old))
-        (seat_state place.old).written (seat_state place.new)) }
+        (seat_state place.old).written (seat_state place.new) }
 {
     worker.finish();
-    visit_needed(rt, alloc, gate, board, place, worker)?;
-    worker.leave(alloc)?;
+    visit_to_end(rt, alloc, gate, board, place, worker);
+    worker.leave();
     settle(rt, board, place, worker);
-    Ok(())
 }
 
-/// Runs the session to its end.
+/// Runs the session to its end, and writes its last line.
 fn carry_out<'a, K: Serving, H: Hash32, C: Clock, G: Gate, R: Wait>(
     rt: &R,
     alloc: Global,
@@ -130,23 +129,25 @@ fn carry_out<'a, K: Serving, H: Hash32, C: Clock, G: Gate, R: Wait>(
     requires image { worker.old.image ≡ None }
     ensures place { IsFreed place.old place.new }
     ensures wrote { OnOk result (HasWritten (says_in C.says worker.old.job) worker.old.job.name.now
-        (texts_in worker.old.job.statements.now) (left_of worker.new) (known_by (seat_state place.old))
+        (texts_in worker.old.job.statements.now) (end_with worker.new.session) (known_by (seat_state place.old))
         (seat_state place.old).written (seat_state place.new)) }
 {
     let count = worker.job.statements.len();
     run_statements(rt, alloc, gate, number, board, place, worker)?;
-    end_session(rt, alloc, gate, board, place, worker)?;
+    end_session(rt, alloc, gate, board, place, worker);
     gate.pass(number, count as u32);
+    worker.session.write_last(alloc)?;
     Ok(())
 }
 
-/// What the thread of a session has of it.
+/// What the thread of a session has of it, whose last line is an entry.
 fn end_of<H: Hash32, C: Clock>(worker: Worker<'_, H, C>) -> SessionEnd
-    ensures { result ≡ left_of worker.entry }
+    ensures { result ≡ end_with worker.entry.session }
 {
     let Session {
         seat: _,
         entries,
+        last: _,
         images,
     } = worker.session;
     SessionEnd { entries, images }

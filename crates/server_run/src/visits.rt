@@ -1,11 +1,12 @@
 //! The visits of a session: each takes one cell of the board, and gives it back.
 
-ghost use Rattle.std.specs.Prelude.{◌≡◌, ◌<◌, IfOk, MatchBool, None, OnOk};
+ghost use Rattle.std.specs.Prelude.{◌≡◌, ◌⊎◌, ◌<◌, IfOk, MatchBool, None, OnOk};
 ghost use Rattle.base_board.specs.Boards.{seat_state};
 ghost use Rattle.server_engine.specs.IsMidway.{WentOn, WentToEnd};
 ghost use Rattle.spec_syntax.specs.Text.{statement_of};
 ghost use Rattle.server_session.specs.Needs.{need_of};
-ghost use Rattle.server_session.specs.ControlPoints.{KeepsStatement};
+ghost use Rattle.server_session.specs.ControlPoints.{IsLeaving, KeepsStatement};
+ghost use Rattle.server_session.specs.Rest.{MayEndSession};
 ghost use Rattle.server_session.specs.declared.need.NextVisit.TheVariants as need;
 ghost use Rattle.spec_protocol.specs.Serves.{Serves};
 ghost use Rattle.server_run.specs.AtBoard.{IsFree, IsFreed};
@@ -86,6 +87,35 @@ fn visit_next<'a, K: Serving, H: Hash32, C: Clock, G: Gate, R: Wait>(
             Ok(true)
         }
         NextVisit::Done => Ok(false),
+    }
+}
+
+/// Makes all visits that the session needs at its end. They take no memory.
+pub(crate) fn visit_to_end<'a, K: Serving, H: Hash32, C: Clock, G: Gate, R: Wait>(
+    rt: &R,
+    alloc: Global,
+    gate: &G,
+    board: &Cells<K>,
+    place: &mut ThreadSeat<K>,
+    worker: &mut Worker<'a, H, C>,
+)
+    requires free { IsFree board.now place.old }
+    requires serves { Serves (H.digest worker.old.job.hasher) statement_of K.database.server }
+    requires ahead { IsAhead H.digest C.says K.database.server worker.old (seat_state place.old) }
+    requires ending { MayEndSession worker.old.session.seat ⊎ IsLeaving worker.old.session.seat }
+    ensures place { IsFreed place.old place.new }
+    ensures ahead { IsAhead H.digest C.says K.database.server worker.new (seat_state place.new) }
+    ensures known { HasSameKnowledge (seat_state place.old) (seat_state place.new) }
+    ensures went { WentToEnd worker.old.session.seat worker.new.session.seat }
+    ensures taken { worker.new.taken ≡ worker.old.taken }
+    ensures job { worker.new.job ≡ worker.old.job }
+    ensures image { worker.new.image ≡ worker.old.image }
+{
+    for _ in rt.forever() {
+        let NextVisit::Cell(cell) = worker.session.seat.need() else {
+            return;
+        };
+        visit_cell(rt, alloc, gate, board, place, worker, cell);
     }
 }
 

@@ -139,16 +139,16 @@ impl<'a, H: Hash32, C: Clock> Worker<'a, H, C> {
         self.session.seat.finish();
     }
 
-    /// The last entry of the session is written down, and it is over.
-    pub(crate) fn leave(&mut self, alloc: Global) -> Result<(), Memory>
+    /// The session is over. Takes no memory.
+    pub(crate) fn leave(&mut self)
         requires ends { MayEndSession self.old.session.seat }
         requires all { self.old.taken ≡ length self.old.job.statements.now }
         requires image { self.old.image ≡ None }
-        ensures left { OnOk result ((v : Server) (s : SeatState)
+        ensures left { (v : Server) (s : SeatState)
             → Serves (H.digest self.old.job.hasher) statement_of v
-            → IsAhead H.digest C.says v self.old s → HasLeft C.says v self.new s) }
-        ensures job { OnOk result (self.new.job ≡ self.old.job) }
+            → IsAhead H.digest C.says v self.old s → HasLeft C.says v self.new s }
+        ensures job { self.new.job ≡ self.old.job }
     {
-        self.session.leave(alloc)
+        self.session.leave();
     }
 }

@@ -1,10 +1,9 @@
-use Rattle.std.proofs.lemmas.Result.{on_ok_weaker}
 use Rattle.server_run.proofs.Over.{leaves_ahead}
 use Rattle.server_run.proofs.worker.Worker.leave.Goals as goal
 
 pub returns-clause-left : goal.returns-clause-left
-returns-clause-left g c = on_ok_weaker c.leave.result (λ left. λ v s serves ahead.
+returns-clause-left g c = λ v s serves ahead.
     let z = c.args.self.now in
     let r = c.requires in
     leaves_ahead g.H.Hash32.digest g.C.Clock.says z.job v serves z.session c.leave.new.self z.taken z.image r.image s ahead r.ends
-    r.all left) c.leave.ensures.leaves
+    r.all c.leave.ensures

@@ -10,7 +10,8 @@ returns-in_ok-push-clause-ahead g c = λ v s ahead.
     stored_ahead g.H.Hash32.digest g.C.Clock.says z.job v z.session (record {
       seat = z.session.seat;
       entries = z.session.entries;
+      last = z.session.last;
       images = images;
-    }) z.taken z.image c.take.new.self s ahead refl refl
+    }) z.taken z.image c.take.new.self s ahead refl refl refl
     (ap (λ k. images ++ images_kept k) c.take.ensures.after ∙ append-nil images ∙ c.in_ok-push.ensures.ok
     ∙ ap (λ k. z.session.images ++ images_kept k) (sym c.in-Some.is ∙ c.take.ensures.value))
