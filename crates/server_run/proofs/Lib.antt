@@ -9,6 +9,7 @@ mod Leavings
 mod Ledgers
 mod Named
 mod Over
+mod Readers
 mod Ready
 mod Seating
 mod Sizes

@@ -7,8 +7,10 @@ use Rattle.spec_protocol.specs.Alone.{Alones}
 use Rattle.spec_protocol.specs.Seats.{idle, IsAtRest, SeatState, Written}
 use Rattle.spec_protocol.specs.Server.{Server}
 use Rattle.format_sections.specs.declared.section.Section.{Section}
+use Rattle.format_sections.specs.RunSections.{section_view, statements_answered, statements_run}
 use Rattle.server_engine.specs.Written.{texts_shown}
 use Rattle.server_engine.specs.declared.session.Session.{Session}
+use Rattle.server_reader.specs.Answered.{AreAnsweredBehind}
 use Rattle.server_result.specs.Moments.{IsMoment}
 use Rattle.server_run.specs.Seated.{known_by, says_in, texts_in}
 use Rattle.server_run.specs.declared.worker.SessionEnd.{SessionEnd}
@@ -53,11 +55,18 @@ pub record HasLeft {H C : Type 0} (says : C → ℕ → Type 0) (v : Server) (z 
 
 -- ---- many sessions
 
+-- This was written of the session of a section, and its thread has this of it: what the session left, and behind its
+-- entries those of the texts that were answered over its image.
+pub record IsOfSection (says : ℕ → Type 0) (p : Section) (e : SessionEnd) (w : Written) : Type 0 where
+  pub left : SessionEnd
+  pub is : IsWritten says p.name.now (statements_run (section_view p)) left w
+  pub images : e.images ≡ left.images
+  pub answered : AreAnsweredBehind p.name.now (statements_answered (section_view p)) left.images left.entries e.entries
+
 -- these were written of the sessions of a plan, in its order
 abbrev pub AreWritten : (ℕ → Type 0) → List Section → List SessionEnd → List Written → Type 0
 AreWritten says [] [] [] = Unit {0}
-AreWritten says (p ∷ ps) (e ∷ es) (w ∷ ws) =
-    IsWritten says p.name.now (texts_in p.statements.items) e w × AreWritten says ps es ws
+AreWritten says (p ∷ ps) (e ∷ es) (w ∷ ws) = IsOfSection says p e w × AreWritten says ps es ws
 AreWritten says _ _ _ = ⊥
 
 -- when the session began, its seat knew all these to be over

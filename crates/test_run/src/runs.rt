@@ -86,6 +86,29 @@ fn two_sessions_overlap(rt: HostRuntime) -> Result<(), Fail> {
     Ok(())
 }
 
+/// A snapshot keeps its image before another session's second statement, and answers from that image.
+#[test]
+fn snapshots_answer_from_the_image_they_kept(rt: HostRuntime) -> Result<(), Fail> {
+    let input: &[u8] = b"-- setup
+CREATE TABLE t (id INT PRIMARY KEY, v INT)
+-- session alice
+INSERT INTO t VALUES (1, 1)
+INSERT INTO t VALUES (2, 2)
+-- snapshot board
+SELECT COUNT(*) FROM t
+";
+    let gate = HoldBothGate::new();
+    let ran = run(&rt, input, 100_000, &gate)?;
+    assert_eq!(rt; gate.met.load(SeqCst), 2);
+    let text = ran.transcript.as_str();
+    assert!(rt; text.contains("alice: INSERT INTO t VALUES (2, 2)\n  1 rows\n"));
+    assert!(rt;
+        text.contains("board: SELECT COUNT(*) FROM t\n  0\n  1 rows\n")
+            || text.contains("board: SELECT COUNT(*) FROM t\n  1\n  1 rows\n")
+    );
+    Ok(())
+}
+
 /// A session's commit is closed by the builder while the session runs.
 #[test]
 fn the_builder_closes_blocks_meanwhile(rt: HostRuntime) -> Result<(), Fail> {

@@ -117,6 +117,6 @@ returns g c =
       i.more,
       came,
       is_closed h sized database size says all_sections d serves refl refl closed fin i.before i.saved laws none made said i.more i.after i.issued came,
-      is_with_digests h sized database size says all_sections d serves refl refl closed fin i.before i.saved laws none made said i.more i.after i.issued came c.in_ok-ran.ran i.is
+      is_with_digests h sized database size says all_sections d serves refl refl closed fin i.before i.saved laws none made said i.more i.after i.issued came c.images_of_cuts_are_encodable.ensures c.in_ok-ran.ran i.is
           (c.is_encodable.ensures statement_of (subst (λ (r : RunOutcome). IsLegalJournal statement_of r.journal) (sym i.is) came.legal)),
     )
