@@ -156,6 +156,8 @@ SQL = [
         TABLE + "b:BEGIN TRAN", rows_of("b:INSERT t"), "\n", "a:DELETE t WHERE k=-1\n"), "ended"),
     ("locks of one transaction, met", halves(
         TABLE + "b:BEGIN TRAN", rows_of("b:INSERT t"), "\n", "a:SELECT * FROM t\n"), "E20"),
+    ("locks of one transaction, in turns with others", step(
+        TABLE + "b:BEGIN TRAN\n", lambda n: f"b:INSERT t VALUES({-n - 1},0)\na:DELETE t WHERE k=0\n"), "(end)"),
     ("locks of 63 transactions", step(
         TABLE + "".join(f"s{n}:BEGIN TRAN\n" for n in range(63)), lambda n: f"s{n % 63}:INSERT t VALUES({n},0)\n"),
         "(end)"),

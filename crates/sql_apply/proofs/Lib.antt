@@ -1,5 +1,1 @@
 pub mod Owned
-pub mod Places
-pub mod Retained
-pub mod Steps
-pub mod Tables

@@ -1,3 +1,2 @@
 pub mod Own
-pub mod Places
 pub mod Short

@@ -1,65 +1,55 @@
 //! The events of a transaction.
 
-ghost use Rattle.std.specs.Prelude.{◌≡◌, ◌++◌, ◌<◌, ◌-◌, ◌^◌, [], ◌∷◌, IfOk, OnOk, Some, flat_map, length};
+ghost use Rattle.std.specs.Prelude.{◌≡◌, ◌++◌, ◌<◌, ◌-◌, ◌^◌, [], ◌∷◌, IfOk, OnOk, Some, flat_map, length, map};
 ghost use Rattle.std.specs.List.{AllByRecursion};
-ghost use Rattle.std.specs.Ordering.{nat_cmp};
 ghost use Rattle.spec_model.specs.Events as spec;
 ghost use Rattle.spec_model.specs.Lists.{sorted};
-ghost use Rattle.sql_apply.specs.Own.{own, own_start, own_ends};
-ghost use Rattle.sql_apply.specs.Short.{AreShort, IsShort};
+ghost use Rattle.sql_apply.specs.Own.{by_number, own, own_start, own_ends};
+ghost use Rattle.sql_apply.specs.Short.{IsShort};
 
 use base_types::{Items, Memory, TableId, TxId};
-use sql_types::{Event, EventField, EventId, Table, TypedValue, Version};
+use sql_types::{Event, EventField, EventId, TypedValue, Version};
 use std::alloc::Global;
 
-/// The starts and ends that the transaction left, by table and number, with the values of their versions.
-/// Looks at each version once and copies the values of those alone that the transaction started or ended.
-#[tactic(auto, unfolding(spec_model::specs::Events::all_events))]
-pub fn all_events(alloc: Global, tx: TxId, tables: &[Table]) -> Result<Items<Event>, Memory>
-    requires { AreShort tables.now }
-    ensures { IfOk result (λ events. events ≡ spec.all_events tx tables.now) }
+/// The events of the transaction in the table with this id, by number, with the values of their versions, where
+/// these are its versions, or those alone that the transaction started or ended. Looks at each of these once.
+pub fn events_of(
+    alloc: Global,
+    tx: TxId,
+    table: TableId,
+    versions: &[&Version],
+) -> Result<Vec<Event>, Memory>
+    requires { AllByRecursion IsShort (map (λ v. v.now) versions.now) }
+    ensures { IfOk result (λ events. events.items
+        ≡ sorted by_number (flat_map (own tx table) (map (λ v. v.now) versions.now))) }
 {
-    let mut events = Vec::new(alloc);
-    for table in tables {
-        let mut more = events_of(alloc, tx, table)?;
-        events.append(&mut more)?;
-    }
-    Ok(Items::from_vec(events))
-}
-
-/// The events of the transaction in a table, by number.
-#[tactic(auto, unfolding(spec_model::specs::Events::events_of), using(crate::proofs::Owned::owned))]
-pub fn events_of(alloc: Global, tx: TxId, table: &Table) -> Result<Vec<Event>, Memory>
-    requires { AllByRecursion IsShort table.now.versions }
-    ensures { IfOk result (λ events. events.items ≡ spec.events_of tx table.now) }
-{
-    let mut events = own_events(alloc, tx, table.def.id, table.versions.as_slice())?;
+    let mut events = own_events(alloc, tx, table, versions)?;
     sort_by_number(&mut events)?;
     Ok(events)
 }
 
 /// Sorts events by their numbers.
 fn sort_by_number(events: &mut Vec<Event>) -> Result<(), Memory>
-    ensures { OnOk result (events.new.items ≡ sorted (λ a b. nat_cmp a.seq b.seq) events.old.items) }
+    ensures { OnOk result (events.new.items ≡ sorted by_number events.old.items) }
 {
     events.sort_by(|a, b| a.seq.cmp(&b.seq))?;
     Ok(())
 }
 
-/// The events of the transaction among the starts and ends of a table's versions.
+/// The events of the transaction among the starts and ends of versions.
 fn own_events(
     alloc: Global,
     tx: TxId,
     table: TableId,
-    versions: &[Version],
+    versions: &[&Version],
 ) -> Result<Vec<Event>, Memory>
-    requires { AllByRecursion IsShort versions.now }
-    ensures { IfOk result (λ events. events.items ≡ flat_map (own tx table) versions.now) }
+    requires { AllByRecursion IsShort (map (λ v. v.now) versions.now) }
+    ensures { IfOk result (λ events. events.items ≡ flat_map (own tx table) (map (λ v. v.now) versions.now)) }
 {
     let mut events = Vec::new(alloc);
     for version in versions {
-        add_start(alloc, tx, table, version, &mut events)?;
-        add_end(alloc, tx, table, version, &mut events)?;
+        add_start(alloc, tx, table, *version, &mut events)?;
+        add_end(alloc, tx, table, *version, &mut events)?;
     }
     Ok(events)
 }

@@ -1,11 +1,7 @@
-//! Tables as lists of versions: changes carried out and undone, and the events that they are.
+//! The events that a transaction left among versions.
 #![tactic(auto)]
 
-mod changing;
 mod events;
-mod undoing;
 
-pub use changing::change_table;
-pub use events::{all_events, events_of};
-pub use sql_types::{Change, Event, Table, Version};
-pub use undoing::undo;
+pub use events::events_of;
+pub use sql_types::{Event, Version};

@@ -1,63 +1,102 @@
--- The least holder that bars a want, and whether some hold answers it, as the holds at some places are looked at one after another.
-use Rattle.std.proofs.Common.{◌≡◌, ◌<◌, ◌+◌, ℕ, Bool, true, false, cond, List, [], ◌∷◌, ◌++◌, take, length, get_or, map, Option, Some, None, refl, ap, ◌∙◌}
-use Rattle.std.specs.List.{filter, fold, list_any, slice_get}
-use Rattle.std.proofs.lemmas.List.{map-append}
-use Rattle.std.proofs.lemmas.List.Folds.{list_any-append}
-use Rattle.std.proofs.lemmas.Map.Keys.{any_passes_from_place}
+-- The least holder that bars a want, and whether some hold answers it, by the holders of its item.
+use Rattle.std.proofs.Common.{◌≡◌, ◌<◌, ◌+◌, ℕ, Bool, true, false, cond, ◌&&◌, ◌||◌, List, [], ◌∷◌, ◌++◌, take, length, get_or, map, Option, Some, None, refl, ap, sym, ◌∙◌}
+use Rattle.std.specs.List.{filter, fold, list_any}
+use Rattle.std.proofs.lemmas.List.{take_more}
 use Rattle.std.proofs.lemmas.List.Elements.{filter-append}
 use Rattle.std.proofs.lemmas.Grind.{fold-append}
 use Rattle.sql_types.specs.declared.lock.LockRequest.{LockRequest}
 use Rattle.sql_types.specs.declared.lock.Hold.{Hold}
-use Rattle.store_locks.specs.Index.{picked}
-use Rattle.store_locks.proofs.Places.{at_has}
-use Rattle.store_locks.proofs.Indexes.{picked_has, picked_more}
+use Rattle.sql_types.specs.declared.lock.Mode.{Mode}
+use Rattle.spec_model.specs.Holds.{answers, holds_request, is_foreign, is_of, same_mode}
 use Rattle.spec_model.specs.InTheWay.{Holder, barrier, bars, holder_of, least, least_with}
+use Rattle.spec_model.specs.Locks.{conflict}
+use Rattle.store_locks.specs.Barring.{answers_as, barring, bars_as}
+use Rattle.store_locks.specs.Holders.{is_on, taken_on}
 
--- the holders that bar a want
-abbrev pub barring : List Hold → ℕ → LockRequest → List Holder
-barring holds tx request = map holder_of (filter (bars tx request) holds)
+-- ---- holders looked at one after another
 
-abbrev pub with_hold : Bool → Option Holder → Hold → Option Holder
-with_hold true best h = least_with best (holder_of h)
-with_hold false best h = best
+module _ (tx : ℕ) (mode : Mode) where
+  abbrev with_holder : Bool → Option Holder → Holder → Option Holder
+  with_holder true best a = least_with best a
+  with_holder false best a = best
 
-one_barring : (b : Bool) (best : Option Holder) (h : Hold) → fold least_with best (map holder_of (cond b (h ∷ []) [])) ≡ with_hold b best h
-one_barring true best h = refl
-one_barring false best h = refl
+  one_barring : (b : Bool) (best : Option Holder) (a : Holder) → fold least_with best (cond b (a ∷ []) []) ≡ with_holder b best a
+  one_barring true best a = refl
+  one_barring false best a = refl
 
-pub barrier_push : (holds : List Hold) (h : Hold) (tx : ℕ) (request : LockRequest) → barrier (holds ++ h ∷ []) tx request ≡ with_hold (bars tx request h) (barrier holds tx request) h
-unfolding barrier
-barrier_push holds h tx request =
-    ap least (ap (map holder_of) (filter-append (bars tx request) holds (h ∷ [])) ∙ map-append holder_of (filter (bars tx request) holds) (filter (bars tx request) (h ∷ [])))
-    ∙ (fold-append least_with _ (barring holds tx request) _ ∙ one_barring (bars tx request h) _ h)
+  barring_push : (holders : List Holder) (a : Holder) → barring tx mode (holders ++ a ∷ []) ≡ with_holder (bars_as tx mode a) (barring tx mode holders) a
+  unfolding barring
+  barring_push holders a =
+      ap least (filter-append (bars_as tx mode) holders (a ∷ []))
+      ∙ (fold-append least_with _ (filter (bars_as tx mode) holders) _ ∙ one_barring (bars_as tx mode a) _ a)
 
-pub barrier_none : (holds : List Hold) (tx : ℕ) (request : LockRequest) → barrier (picked holds []) tx request ≡ None
-unfolding barrier picked
-barrier_none holds tx request = refl
+  pub barring_none : barring tx mode [] ≡ None
+  unfolding barring
+  barring_none = refl
 
-pub blocked_more : (holds : List Hold) (places : List ℕ) (i : ℕ) (h : Hold) (tx : ℕ) (request : LockRequest) → i < length places → slice_get holds (get_or places i 0) ≡ Some h → bars tx request h ≡ true
-    → barrier (picked holds (take (i + 1) places)) tx request ≡ least_with (barrier (picked holds (take i places)) tx request) (holder_of h)
-blocked_more holds places i h tx request inside at blocked =
-    rw (picked_more holds places i h inside at) (barrier_push (picked holds (take i places)) h tx request ∙ ap (λ b. with_hold b (barrier (picked holds (take i places)) tx request) h) blocked)
+  module _ (holders : List Holder) (i : ℕ) (a : Holder) (inside : i < length holders) (is : a ≡ get_or holders i a) where
+    more : take (i + 1) holders ≡ take i holders ++ a ∷ []
+    more = take_more holders i a inside ∙ ap (λ (x : Holder). take i holders ++ x ∷ []) (sym is)
 
-pub passed_more : (holds : List Hold) (places : List ℕ) (i : ℕ) (h : Hold) (tx : ℕ) (request : LockRequest) → i < length places → slice_get holds (get_or places i 0) ≡ Some h → bars tx request h ≡ false
-    → barrier (picked holds (take (i + 1) places)) tx request ≡ barrier (picked holds (take i places)) tx request
-passed_more holds places i h tx request inside at passes =
-    rw (picked_more holds places i h inside at) (barrier_push (picked holds (take i places)) h tx request ∙ ap (λ b. with_hold b (barrier (picked holds (take i places)) tx request) h) passes)
+    with_is : (b : Bool) (best : Option Holder) → with_holder b best a ≡ cond b (least_with best a) best
+    with_is true best = refl
+    with_is false best = refl
 
--- ---- what answers a want
+    pub one_more : barring tx mode (take (i + 1) holders) ≡ cond (bars_as tx mode a) (least_with (barring tx mode (take i holders)) a) (barring tx mode (take i holders))
+    one_more = ap (barring tx mode) more ∙ (barring_push (take i holders) a ∙ with_is (bars_as tx mode a) (barring tx mode (take i holders)))
 
-pub none_answers : (holds : List Hold) (test : Hold → Bool) → list_any test (picked holds []) ≡ false
-unfolding picked
-none_answers holds test = refl
+-- ---- the holders of the item are enough
 
-pub answers_more : (holds : List Hold) (places : List ℕ) (i : ℕ) (h : Hold) (test : Hold → Bool) → i < length places → slice_get holds (get_or places i 0) ≡ Some h
-    → list_any test (picked holds (take i places)) ≡ false → test h ≡ false → list_any test (picked holds (take (i + 1) places)) ≡ false
-answers_more holds places i h test inside at before here =
-    rw (picked_more holds places i h inside at) (list_any-append test (picked holds (take i places)) (h ∷ []) ∙ rw (before, here) refl)
+chosen : {A : Type 0} (a b c : Bool) (x y : A) → cond (a && (b && c)) x y ≡ cond b (cond (a && c) x y) y
+chosen true true true x y = refl
+chosen true true false x y = refl
+chosen true false c x y = refl
+chosen false true c x y = refl
+chosen false false c x y = refl
 
-pub answers_there : (holds : List Hold) (places : List ℕ) (i : ℕ) (h : Hold) (test : Hold → Bool) → i < length places → slice_get holds (get_or places i 0) ≡ Some h
-    → test h ≡ true → list_any test (picked holds places) ≡ true
-answers_there holds places i h test inside at here =
-    let there = picked_has holds places (get_or places i 0) h (at_has places i inside) at in
-    any_passes_from_place test (picked holds places) there.0 h there.1 here
+either : (a b c r : Bool) → (a && (b && c) || r) ≡ cond b (a && c || r) r
+either true true c r = refl
+either true false c r = refl
+either false true c r = refl
+either false false c r = refl
+
+module _ (tx : ℕ) (request : LockRequest) where
+  abbrev on : Hold → Bool
+  on = is_on request.item
+
+  seen_by : (d : Bool) (h : Hold) (hs : List Hold) → map holder_of (cond d (h ∷ hs) hs) ≡ cond d (holder_of h ∷ map holder_of hs) (map holder_of hs)
+  seen_by true h hs = refl
+  seen_by false h hs = refl
+
+  tested_by : (d : Bool) (h : Hold) (hs : List Hold) (test : Holder → Bool)
+      → filter test (map holder_of (cond d (h ∷ hs) hs)) ≡ cond d (cond (test (holder_of h)) (holder_of h ∷ filter test (map holder_of hs)) (filter test (map holder_of hs))) (filter test (map holder_of hs))
+  tested_by true h hs test = refl
+  tested_by false h hs test = refl
+
+  any_by : (d : Bool) (h : Hold) (hs : List Hold) (test : Holder → Bool)
+      → list_any test (map holder_of (cond d (h ∷ hs) hs)) ≡ cond d (test (holder_of h) || list_any test (map holder_of hs)) (list_any test (map holder_of hs))
+  any_by true h hs test = refl
+  any_by false h hs test = refl
+
+  barring_there : (holds : List Hold) → map holder_of (filter (bars tx request) holds) ≡ filter (bars_as tx request.mode) (taken_on request.item holds)
+  barring_there [] = refl
+  barring_there (h ∷ hs) =
+      seen_by (bars tx request h) h (filter (bars tx request) hs)
+      ∙ (ap (λ (rest : List Holder). cond (bars tx request h) (holder_of h ∷ rest) rest) (barring_there hs)
+      ∙ (chosen (is_foreign tx h) (on h) (conflict request.mode h.request.mode) (holder_of h ∷ filter (bars_as tx request.mode) (taken_on request.item hs)) (filter (bars_as tx request.mode) (taken_on request.item hs))
+      ∙ sym (tested_by (on h) h (filter on hs) (bars_as tx request.mode))))
+
+  pub barrier_there : (holds : List Hold) → barrier holds tx request ≡ barring tx request.mode (taken_on request.item holds)
+  unfolding barrier barring
+  barrier_there holds = ap least (barring_there holds)
+
+  any_there : (holds : List Hold) → list_any (answers tx request) holds ≡ list_any (answers_as tx request.mode) (taken_on request.item holds)
+  any_there [] = refl
+  any_there (h ∷ hs) =
+      ap (λ r. answers tx request h || r) (any_there hs)
+      ∙ (either (is_of tx h) (on h) (same_mode request.mode h.request.mode) (list_any (answers_as tx request.mode) (taken_on request.item hs))
+      ∙ sym (any_by (on h) h (filter on hs) (answers_as tx request.mode)))
+
+  pub held_there : (holds : List Hold) → holds_request holds tx request ≡ list_any (answers_as tx request.mode) (taken_on request.item holds)
+  unfolding holds_request
+  held_there holds = any_there holds

@@ -1,120 +1,106 @@
--- What a lock list keeps beside its holds stays true when they change.
-use Rattle.std.proofs.Common.{◌≡◌, ◌==◌, ◌<◌, ◌≤◌, ℕ, Bool, true, false, not, ltb, ◌&&◌, ◌||◌, List, [], ◌∷◌, ◌++◌, map, take, drop, length, get_or, refl, sym, ap, ◌∙◌, arith}
-use Rattle.std.specs.List.{All, filter, insert, list_any}
-use Rattle.std.proofs.lemmas.Bool.{eqb-true}
-use Rattle.std.proofs.lemmas.List.{append-nil, drop_all, length_push, length-take-le, take-append-drop, take_all}
-use Rattle.std.proofs.lemmas.List.Elements.{All-filter, All-weaker}
-use Rattle.std.proofs.lemmas.List.Filters.{length-filter_both}
-use Rattle.std.proofs.lemmas.List.Folds.{list_any-append}
-use Rattle.std.proofs.lemmas.Map.Views.{any-filter_same}
+-- What is kept beside locks stays true when they change.
+use Rattle.std.proofs.Common.{◌≡◌, ◌==◌, ◌-◌, ◌+◌, ◌≤◌, ℕ, Bool, true, false, not, cond, List, [], ◌∷◌, ◌++◌, map, take, length, refl, sym, ap, subst, ◌∙◌, arith}
+use Rattle.std.proofs.lemmas.List.{length-take-le, length_push, map_push, take-append-le, take-take, take_all}
+use Rattle.std.specs.List.{filter, remove}
+use Rattle.std.specs.Ordering.{nat_cmp}
+use Rattle.std.specs.Global.{Vec}
+use Rattle.std.specs.BTreeMap.{BTreeMap}
+use Rattle.std.specs.Map.{keys_of, values_of}
 use Rattle.sql_types.specs.declared.lock.Hold.{Hold}
-use Rattle.spec_model.specs.Holds.{holds_any, is_foreign, is_of}
-use Rattle.store_locks.specs.Index.{Bookkeeping, item_is_before, staying, stays}
-use Rattle.store_locks.proofs.Changes.{indexed_more, indexed_back, indexed_left}
+use Rattle.sql_types.specs.declared.lock.Item.{Item}
+use Rattle.spec_model.specs.InTheWay.{Holder, holder_of}
+use Rattle.spec_model.specs.Locks.{same_item}
+use Rattle.store_locks.specs.Holders.{HoldersAre, IsDoneOn, holders_on, is_by, is_on, taken_on}
+use Rattle.store_locks.specs.Lists.{Relists, listed, without_first}
+use Rattle.store_locks.specs.Numbers.{AreNumbers, Numbered, is_others, is_own, numbers_of}
+use Rattle.store_locks.specs.declared.item_holders.ItemHolders.{ItemHolders}
+use Rattle.store_locks.proofs.Listed.{number_relisted}
+use Rattle.store_locks.proofs.Taken.{IsFirst, less_taken, numbers_kept, seen_less, seen_more, without_last}
 
--- the transaction is one of these
-abbrev known : List ℕ → ℕ → Bool
-known who tx = list_any (λ holder. holder == tx) who
+-- ---- the holders of items
 
-twice : (b : Bool) → b ≡ not (not b)
-twice true = refl
-twice false = refl
+-- the last of them goes
+abbrev pub popped : {C : Type 0} → List C → List C
+popped xs = remove xs (length xs - 1)
 
--- a list that was written over whole
-pub whole : {X : Type 0} (n : ℕ) (new old : List X) → length new ≡ length old → n ≡ length old → take n (new ++ drop (length new) old) ≡ new
-whole n new old len is = rw (drop_all (length new) old (omega arith), append-nil new) (take_all n new (omega arith))
+module _ (old new : ItemHolders) where
+  pub holders_come : (locks : List Numbered) (n : ℕ) (h : Hold) → HoldersAre old (values_of locks) → IsDoneOn h.request.item (λ xs. xs ++ holder_of h ∷ []) old new
+      → HoldersAre new (values_of (locks ++ (n, h) ∷ []))
+  holders_come locks n h are done = λ item.
+      done item
+      ∙ (ap (λ (xs : List Holder). cond (is_on item h) (xs ++ holder_of h ∷ []) xs) (are item)
+      ∙ (sym (seen_more holder_of (is_on item) (values_of locks) h) ∙ ap (taken_on item) (sym (map_push (λ (lock : Numbered). lock.1) locks (n, h)))))
 
--- ---- nothing is held
+  pub holders_go : (locks : List Numbered) (lock : Numbered) → HoldersAre old (values_of (locks ++ lock ∷ [])) → IsDoneOn lock.1.request.item popped old new
+      → HoldersAre new (values_of locks)
+  holders_go locks lock are done = λ item.
+      let all : holders_on old item ≡ taken_on item (values_of locks ++ lock.1 ∷ []) = are item ∙ ap (taken_on item) (map_push (λ (l : Numbered). l.1) locks lock) in
+      done item
+      ∙ (ap (λ (xs : List Holder). cond (is_on item lock.1) (popped xs) xs) all ∙ seen_less holder_of (is_on item) (values_of locks) lock.1)
 
-pub kept_none : Bookkeeping [] [] [] []
-unfolding holds_any
-kept_none = record {
-  indexed = record {
-    within = λ k d inside. absurd (omega arith);
-    complete = λ p inside. absurd (omega arith);
-    in_order = λ i j d ij inside. absurd (omega arith);
-  };
-  room = omega arith;
-  holders = λ tx. refl;
-}
+  pub first_holder_goes : (tx : ℕ) (h : Hold) (locks : List Numbered) → IsFirst tx h locks → HoldersAre old (values_of locks) → IsDoneOn h.request.item (without_first (is_by tx)) old new
+      → HoldersAre new (values_of (without_first (is_own tx) locks))
+  first_holder_goes tx h locks first are done = λ item.
+      done item ∙ (ap (λ (xs : List Holder). cond (is_on item h) (without_first (is_by tx) xs) xs) (are item) ∙ less_taken tx h item locks first)
 
--- ---- a hold comes
+  pub same_holders : (holds : List Hold) → ((item : Item) → holders_on new item ≡ holders_on old item) → HoldersAre old holds → HoldersAre new holds
+  same_holders holds same are = λ item. same item ∙ are item
 
-or_none : (a b : Bool) → (a || (b || false)) ≡ (b || a)
-or_none true true = refl
-or_none true false = refl
-or_none false true = refl
-or_none false false = refl
+-- one comes and goes again
+module _ (old mid new : ItemHolders) (item : Item) (a : Holder) where
+  back_by : (b : Bool) (xs : List Holder) → cond b (popped (cond b (xs ++ a ∷ []) xs)) (cond b (xs ++ a ∷ []) xs) ≡ xs
+  back_by true xs = without_last xs a
+  back_by false xs = refl
 
-or_known : (a b : Bool) → (b ≡ true → a ≡ true) → a ≡ (b || a)
-or_known a true is = is refl
-or_known a false is = refl
+  pub holders_back : IsDoneOn item (λ xs. xs ++ a ∷ []) old mid → IsDoneOn item popped mid new → (other : Item) → holders_on new other ≡ holders_on old other
+  holders_back come go other =
+      go other
+      ∙ (ap (λ (xs : List Holder). cond (same_item other item) (popped xs) xs) (come other) ∙ back_by (same_item other item) (holders_on old other))
 
-any_more : (holds : List Hold) (h : Hold) (tx : ℕ) → holds_any (holds ++ h ∷ []) tx ≡ (h.tx == tx || holds_any holds tx)
-unfolding holds_any
-any_more holds h tx = list_any-append (is_of tx) holds (h ∷ []) ∙ or_none (list_any (is_of tx) holds) (h.tx == tx)
+-- ---- the numbers of each transaction
 
-known_more : (who : List ℕ) (tx t : ℕ) → known (who ++ tx ∷ []) t ≡ (tx == t || known who t)
-known_more who tx t = list_any-append (λ holder. holder == t) who (tx ∷ []) ∙ or_none (known who t) (tx == t)
+abbrev number : Numbered → ℕ
+number lock = lock.0
 
-module _ (holds : List Hold) (places moved who : List ℕ) (is : Bookkeeping holds places moved who) where
-  -- a transaction that holds something already
-  pub known_stays : (h : Hold) → known who h.tx ≡ true → (t : ℕ) → known who t ≡ holds_any (holds ++ h ∷ []) t
-  known_stays h already t =
-      is.holders t ∙ (or_known (holds_any holds t) (h.tx == t) (λ e. sym (is.holders t) ∙ (ap (known who) (sym (eqb-true h.tx t e)) ∙ already)) ∙ sym (any_more holds h t))
+module _ (old new : BTreeMap ℕ (Vec ℕ)) where
+  pub numbers_come : (locks : List Numbered) (n : ℕ) (h : Hold) → AreNumbers old locks
+      → Relists nat_cmp (nat_cmp h.tx) old new (listed (nat_cmp h.tx) old ++ n ∷ []) → AreNumbers new (locks ++ (n, h) ∷ [])
+  numbers_come locks n h are relists = λ tx.
+      number_relisted h.tx old new (λ xs. xs ++ n ∷ []) relists tx
+      ∙ (ap (λ (xs : List ℕ). cond (h.tx == tx) (xs ++ n ∷ []) xs) (are tx) ∙ sym (seen_more number (is_own tx) locks (n, h)))
 
-  -- another one
-  pub known_comes : (h : Hold) (t : ℕ) → known (who ++ h.tx ∷ []) t ≡ holds_any (holds ++ h ∷ []) t
-  known_comes h t = known_more who h.tx t ∙ (ap (λ b. h.tx == t || b) (is.holders t) ∙ sym (any_more holds h t))
+  pub numbers_go : (locks : List Numbered) (lock : Numbered) → AreNumbers old (locks ++ lock ∷ [])
+      → Relists nat_cmp (nat_cmp lock.1.tx) old new (popped (listed (nat_cmp lock.1.tx) old)) → AreNumbers new locks
+  numbers_go locks lock are relists = λ tx.
+      number_relisted lock.1.tx old new popped relists tx
+      ∙ (ap (λ (xs : List ℕ). cond (lock.1.tx == tx) (popped xs) xs) (are tx) ∙ seen_less number (is_own tx) locks lock)
 
-  pub kept_more : (h : Hold) (n : ℕ) (room others : List ℕ) → length holds < length room → n ≤ length places
-      → ((k : ℕ) → k < n → item_is_before holds h.request.item (get_or places k 0) ≡ true)
-      → ((k : ℕ) → n ≤ k → k < length places → item_is_before holds h.request.item (get_or places k 0) ≡ false)
-      → ((t : ℕ) → known others t ≡ holds_any (holds ++ h ∷ []) t) → Bookkeeping (holds ++ h ∷ []) (insert places n (length holds)) room others
-  kept_more h n room others wide le before behind holders = record {
-    indexed = indexed_more holds h places n is.indexed le before behind;
-    room = (let len = length_push holds h in omega arith);
-    holders = holders;
-  }
+  pub numbers_released : (locks : List Numbered) (t : ℕ) → AreNumbers old locks → Relists nat_cmp (nat_cmp t) old new [] → AreNumbers new (filter (is_others t) locks)
+  numbers_released locks t are relists = λ tx.
+      number_relisted t old new (λ xs. []) relists tx
+      ∙ (ap (λ (xs : List ℕ). cond (t == tx) [] xs) (are tx) ∙ sym (numbers_kept t tx locks))
 
-  -- ---- the last ones go
+  pub same_numbers : (locks : List Numbered) (t : ℕ) → AreNumbers old locks → Relists nat_cmp (nat_cmp t) old new (listed (nat_cmp t) old) → AreNumbers new locks
+  same_numbers locks t are relists = λ tx.
+      number_relisted t old new (λ xs. xs) relists tx ∙ (either_way (t == tx) (listed (nat_cmp tx) old) ∙ are tx)
+    where
+      either_way : (b : Bool) (xs : List ℕ) → cond b xs xs ≡ xs
+      either_way true xs = refl
+      either_way false xs = refl
 
-  front_any : (k t : ℕ) → holds_any (take k holds) t ≡ true → holds_any holds t ≡ true
-  unfolding holds_any
-  front_any k t some =
-      ap (list_any (is_of t)) (sym (take-append-drop k holds)) ∙ (list_any-append (is_of t) (take k holds) (drop k holds) ∙ ap (λ b. b || list_any (is_of t) (drop k holds)) some)
+-- ---- what is held, when the last locks go
 
-  front_by : (a b : Bool) → (a ≡ true → b ≡ true) → (a && b) ≡ a
-  front_by true b is = is refl
-  front_by false b is = refl
+pub values_less : (locks : List Numbered) (lock : Numbered) → values_of locks ≡ take (length (values_of (locks ++ lock ∷ [])) - 1) (values_of (locks ++ lock ∷ []))
+values_less locks lock =
+    let all : values_of (locks ++ lock ∷ []) ≡ values_of locks ++ lock.1 ∷ [] = map_push (λ (l : Numbered). l.1) locks lock in
+    let long : length (values_of locks ++ lock.1 ∷ []) ≡ length (values_of locks) + 1 = length_push (values_of locks) lock.1 in
+    let last : length (values_of locks ++ lock.1 ∷ []) - 1 ≡ length (values_of locks) = omega (arith, long) in
+    sym (ap (λ (vs : List Hold). take (length vs - 1) vs) all
+    ∙ (ap (λ n. take n (values_of locks ++ lock.1 ∷ [])) last
+    ∙ (take-append-le (length (values_of locks)) (values_of locks) (lock.1 ∷ []) (omega arith) ∙ take_all (length (values_of locks)) (values_of locks) (omega arith))))
 
-  pub kept_back : (k : ℕ) → k ≤ length holds → Bookkeeping (take k holds) (filter (λ p. ltb p k) places) moved (filter (holds_any (take k holds)) who)
-  kept_back k le = record {
-    indexed = indexed_back holds places k le is.indexed;
-    room = (let len = length-take-le k holds le in let room = is.room in omega arith);
-    holders = λ t.
-        any-filter_same (λ holder. holder == t) (holds_any (take k holds)) (holds_any (take k holds) t) (λ x e. ap (holds_any (take k holds)) (eqb-true x t e)) who
-        ∙ (ap (λ b. holds_any (take k holds) t && b) (is.holders t) ∙ front_by (holds_any (take k holds) t) (holds_any holds t) (front_any k t));
-  }
-
-  -- ---- those of a transaction go
-
-  -- there is room for all places
-  pub kept_within : (test : ℕ → Bool) (n : ℕ) → n ≡ length moved → All (λ p. p < n) (filter test places)
-  kept_within test n same =
-      let room = is.room in
-      All-weaker (λ p. p < length holds) (λ p. p < n) (λ p below. omega arith) (filter test places) (All-filter test (λ p. p < length holds) places is.indexed.within)
-
-  others_known : (tx t : ℕ) → known (filter (λ holder. not (holder == tx)) who) t ≡ holds_any (filter (is_foreign tx) holds) t
-  unfolding holds_any
-  others_known tx t =
-      any-filter_same (λ holder. holder == t) (λ holder. not (holder == tx)) (not (t == tx)) (λ x e. ap (λ y. not (y == tx)) (eqb-true x t e)) who
-      ∙ (ap (λ b. not (t == tx) && b) (is.holders t) ∙ sym (any-filter_same (is_of t) (is_foreign tx) (not (t == tx)) (λ h e. ap (λ y. not (y == tx)) (eqb-true h.tx t e)) holds))
-
-  pub kept_released : (tx : ℕ) (f : ℕ → ℕ) (room : List ℕ) → ((p : ℕ) → p < length holds → f p ≡ staying (is_foreign tx) holds p) → length room ≡ length moved
-      → Bookkeeping (filter (is_foreign tx) holds) (map f (filter (stays (is_foreign tx) holds) places)) room (filter (λ holder. not (holder == tx)) who)
-  kept_released tx f room moves same = record {
-    indexed = indexed_left (is_foreign tx) holds places f is.indexed moves;
-    room = (let fewer = length-filter_both (is_foreign tx) (is_of tx) (λ h. twice (h.tx == tx)) holds in let enough = is.room in omega arith);
-    holders = others_known tx;
-  }
+pub one_less : (holds : List Hold) (n i : ℕ) → n ≡ length holds → i + 1 ≤ n → take (length (take (n - i) holds) - 1) (take (n - i) holds) ≡ take (n - (i + 1)) holds
+one_less holds n i is inside =
+    let long : length (take (n - i) holds) ≡ n - i = length-take-le (n - i) holds (omega (arith, is)) in
+    let fewer : length (take (n - i) holds) - 1 ≡ n - (i + 1) = omega (arith, long) in
+    ap (λ m. take m (take (n - i) holds)) fewer ∙ take-take (n - (i + 1)) (n - i) holds (omega arith)

@@ -1,8 +1,8 @@
 pub mod Barriers
-pub mod Changes
+pub mod Firsts
 pub mod Holders
-pub mod Indexes
 pub mod Kept
-pub mod Orders
-pub mod Places
+pub mod Listed
+pub mod OnItems
 pub mod Steps
+pub mod Taken

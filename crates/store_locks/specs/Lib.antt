@@ -1,3 +1,5 @@
 pub mod Asked
-pub mod Index
-pub mod Items
+pub mod Barring
+pub mod Holders
+pub mod Lists
+pub mod Numbers

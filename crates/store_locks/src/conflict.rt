@@ -1,35 +1,39 @@
-//! What stands against a want, and what answers it, among the holds at some places.
+//! What stands against a want, and what answers it, among the holders of its item.
 
-ghost use Rattle.std.specs.Prelude.{◌≡◌, ◌<◌, All, length};
+ghost use Rattle.std.specs.Prelude.{◌≡◌, if◌then◌else◌};
 ghost use Rattle.std.specs.List.{list_any};
-ghost use Rattle.spec_model.specs.InTheWay.{barrier, bars, least_with, precedes};
-ghost use Rattle.spec_model.specs.Holds.{answers};
-ghost use Rattle.store_locks.specs.Index.{picked};
+ghost use Rattle.spec_model.specs.InTheWay.{least_with, precedes};
+ghost use Rattle.store_locks.specs.Barring.{answers_as, barring, bars_as};
 
-use crate::item::same_item;
 use crate::mode::{conflicts, rank};
 use base_types::TxId;
-use sql_types::{Hold, LockRequest, Mode};
+use sql_types::Mode;
 
-/// The least holder that bars the want.
-#[tactic(auto, using(crate::proofs::Barriers::barrier_none, crate::proofs::Barriers::blocked_more, crate::proofs::Barriers::passed_more))]
-pub fn barrier(
-    holds: &[Hold],
-    places: &[usize],
-    tx: TxId,
-    request: &LockRequest,
-) -> Option<(TxId, Mode)>
-    requires { All (λ place. place < length holds.now) places.now }
-    ensures { result ≡ barrier (picked holds.now places.now) tx request.now }
+/// The least of these holders that bars the transaction from the mode.
+pub fn least_barring(holders: &[(TxId, Mode)], tx: TxId, mode: Mode) -> Option<(TxId, Mode)>
+    ensures { result ≡ barring tx mode holders.now }
 {
     let mut least = None;
-    for place in places {
-        let hold = &holds[*place];
-        if bars(tx, request, hold) {
-            least = least_with(least, (hold.tx, hold.request.mode));
-        }
+    for place in 0..holders.len() {
+        least = least_of(least, tx, mode, &holders[place]);
     }
     least
+}
+
+// The least so far, with one more holder.
+fn least_of(
+    best: Option<(TxId, Mode)>,
+    tx: TxId,
+    mode: Mode,
+    holder: &(TxId, Mode),
+) -> Option<(TxId, Mode)>
+    ensures { result ≡ if bars_as tx mode holder.now then least_with best holder.now else best }
+{
+    if bars(tx, mode, holder) {
+        least_with(best, *holder)
+    } else {
+        best
+    }
 }
 
 fn least_with(best: Option<(TxId, Mode)>, a: (TxId, Mode)) -> Option<(TxId, Mode)>
@@ -47,33 +51,22 @@ fn precedes(a: (TxId, Mode), b: (TxId, Mode)) -> bool
     a.0 < b.0 || a.0 == b.0 && rank(a.1) < rank(b.1)
 }
 
-// Whether the hold is another transaction's and can't stand beside the want.
-fn bars(tx: TxId, request: &LockRequest, hold: &Hold) -> bool
-    ensures { result ≡ bars tx request.now hold.now }
+// Whether the holder is another transaction, and can't stand beside the mode.
+fn bars(tx: TxId, mode: Mode, holder: &(TxId, Mode)) -> bool
+    ensures { result ≡ bars_as tx mode holder.now }
 {
-    hold.tx != tx
-        && same_item(&request.item, &hold.request.item)
-        && conflicts(request.mode, hold.request.mode)
+    holder.0 != tx && conflicts(mode, holder.1)
 }
 
-/// Whether one of the holds is the transaction's, on the item that it wants and in the same mode.
-#[tactic(auto, using(crate::proofs::Barriers::none_answers, crate::proofs::Barriers::answers_more, crate::proofs::Barriers::answers_there))]
-pub fn already_holds(holds: &[Hold], places: &[usize], tx: TxId, request: &LockRequest) -> bool
-    requires { All (λ place. place < length holds.now) places.now }
-    ensures { result ≡ list_any (answers tx request.now) (picked holds.now places.now) }
+/// Whether one of these holders is the transaction, in this mode.
+pub fn holds_as(holders: &[(TxId, Mode)], tx: TxId, mode: Mode) -> bool
+    ensures { result ≡ list_any (answers_as tx mode) holders.now }
 {
-    for place in places {
-        if answers(tx, request, &holds[*place]) {
-            return true;
-        }
-    }
-    false
+    holders.iter().any(|holder| answers(tx, mode, *holder))
 }
 
-fn answers(tx: TxId, request: &LockRequest, hold: &Hold) -> bool
-    ensures { result ≡ answers tx request.now hold.now }
+fn answers(tx: TxId, mode: Mode, holder: (TxId, Mode)) -> bool
+    ensures { result ≡ answers_as tx mode holder }
 {
-    hold.tx == tx
-        && same_item(&request.item, &hold.request.item)
-        && rank(request.mode) == rank(hold.request.mode)
+    holder.0 == tx && rank(mode) == rank(holder.1)
 }

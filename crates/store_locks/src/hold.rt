@@ -1,8 +1,7 @@
 //! What a transaction holds.
 
-ghost use Rattle.std.specs.Prelude.{◌≡◌, ◌==◌, IfOk};
-ghost use Rattle.std.specs.List.{list_any};
-ghost use Rattle.spec_model.specs.Holds.{hold, holds_any};
+ghost use Rattle.std.specs.Prelude.{◌≡◌, IfOk};
+ghost use Rattle.spec_model.specs.Holds.{hold};
 
 use crate::item::copy_of_item;
 use base_types::{Memory, TxId};
@@ -21,19 +20,4 @@ pub fn hold_of(alloc: Global, tx: TxId, request: &LockRequest) -> Result<Hold, M
             mode: request.mode,
         },
     })
-}
-
-/// Whether the transaction has one of these holds.
-#[tactic(auto, unfolding(spec_model::specs::Holds::holds_any))]
-pub fn holds_any(holds: &[Hold], tx: TxId) -> bool
-    ensures { result ≡ holds_any holds.now tx }
-{
-    holds.iter().any(|hold| hold.tx == tx)
-}
-
-/// Whether the transaction is one of these.
-pub fn is_known(holders: &[TxId], tx: TxId) -> bool
-    ensures { result ≡ list_any (λ holder. holder == tx) holders.now }
-{
-    holders.iter().any(|holder| *holder == tx)
 }

@@ -3,11 +3,13 @@
 
 mod conflict;
 mod hold;
-mod index;
 mod item;
+mod item_holders;
 mod laws;
 mod list;
+mod lists;
 mod lock_err;
+mod locks;
 mod mode;
 
 pub use laws::{back_undoes_an_ask, least_holder_is_named};

@@ -1,43 +1,41 @@
 //! The list of locks.
 
-ghost use Rattle.std.specs.Prelude.{◌≡◌, ◌≤◌, ◌++◌, ◌∷◌, [], length, take, OnOk, OnErr};
+ghost use Rattle.std.specs.Prelude.{◌≡◌, ◌≤◌, ◌-◌, ◌++◌, ◌∷◌, [], length, take, OnOk, OnErr};
 ghost use Rattle.store_locks.specs.Asked.{IsMeant, asked, refused_or};
 ghost use Rattle.spec_model.specs.InTheWay.{barrier, first_conflict};
 ghost use Rattle.spec_model.specs.Holds.{holds_any, holds_request, hold, with_request, holds_after, released};
 
-use crate::conflict::{already_holds, barrier};
-use crate::hold::{hold_of, holds_any, is_known};
-use crate::index::{first_at, make_room, move_places, note_moves, places_of, stays};
+use crate::hold::hold_of;
 use crate::item::copy_of_item;
+use crate::lists::{list_at, pop_at, push_at};
 use crate::lock_err::LockErr;
+use crate::locks::NumberedLocks;
 use base_types::{Memory, TxId};
 use sql_types::{Hold, LockRequest, Mode};
 use std::alloc::Global;
+use std::collections::BTreeMap;
 use std::marker::Model;
 
 /// The locks of one cell. Contracts see the list of what is held, in the order in which it was taken.
 #[derive(Debug, Drop)]
 pub struct LockList {
-    holds: Vec<Hold>,
-    // The places of the holds, by item.
-    places: Vec<usize>,
-    // Room to note where holds move, so that a release takes no memory.
-    moved: Vec<usize>,
-    // The transactions that hold something.
-    holders: Vec<TxId>,
+    locks: NumberedLocks,
+    // The numbers of each transaction's locks, in the order in which it took them.
+    numbers: BTreeMap<TxId, Vec<u64>>,
 }
 
 impl Model for LockList {
     ghost use Rattle.std.specs.Prelude.{List};
+    ghost use Rattle.std.specs.Map.{values_of};
     ghost use Rattle.sql_types.specs.declared.lock.Hold.{Hold};
 
     ghost Value = { List Hold };
 
-    ghost use Rattle.store_locks.specs.Index.{Bookkeeping};
+    ghost use Rattle.store_locks.specs.Numbers.{AreNumbers};
 
-    ghost view = { λ l. l.holds.items };
+    ghost view = { λ l. values_of l.locks };
 
-    ghost invariant = { λ l. Bookkeeping l.holds.items l.places.items l.moved.items l.holders.items };
+    ghost invariant = { λ l. AreNumbers l.numbers l.locks };
 }
 
 impl LockList {
@@ -46,10 +44,8 @@ impl LockList {
         ensures { result ≡ [] }
     {
         LockList {
-            holds: Vec::new(alloc),
-            places: Vec::new(alloc),
-            moved: Vec::new(alloc),
-            holders: Vec::new(alloc),
+            locks: NumberedLocks::new(alloc),
+            numbers: BTreeMap::new(alloc),
         }
     }
 
@@ -58,9 +54,8 @@ impl LockList {
     /// that conflicts; the first such want decides, and the holder is the least transaction, with the least
     /// of its modes that conflict. After an error nothing has changed.
     ///
-    /// For each want this looks at the locks on its item alone, which it finds by halving, and at the
-    /// transactions that hold something. A lock that is new moves the places, a word each, of those on items
-    /// behind its own.
+    /// For each want this looks at the locks on its item alone. These, and the transaction's, are found in
+    /// trees, in steps in proportion to the logarithm of how many items are held.
     pub fn ask(&mut self, tx: TxId, requests: &[LockRequest]) -> Result<bool, LockErr>
         ensures answer { IsMeant (asked self.old tx requests.now) result }
         ensures ok { OnOk result (self.new ≡ holds_after self.old tx requests.now) }
@@ -80,55 +75,56 @@ impl LockList {
     pub fn holds(&self) -> u64
         ensures { result ≡ length self.now }
     {
-        self.holds.len() as u64
+        self.locks.count()
     }
 
     /// Keeps the first so many locks. Where their number before an `ask` is given, and nothing else has
-    /// changed since, the list is again as it was then. Takes no memory, and looks at the locks that stay
-    /// once for each transaction that holds something.
+    /// changed since, the list is again as it was then. Takes no memory, and looks at no lock that stays.
     pub fn back(&mut self, holds: u64)
         requires { holds ≤ length self.old }
         ensures { self.new ≡ take holds self.old }
     {
-        let kept = holds as usize;
-        self.holds.truncate(kept);
-        self.places.retain(|place| *place < kept);
-        let holds = self.holds.as_slice();
-        self.holders.retain(|holder| holds_any(holds, *holder));
+        for _ in 0..self.holds() - holds {
+            self.pop();
+        }
     }
 
-    /// Drops the locks of the transaction; those of others stay as they are. Takes no memory, and looks at
-    /// each lock once.
+    // Drops the last lock.
+    fn pop(&mut self)
+        ensures { self.new ≡ take (length self.old - 1) self.old }
+    {
+        if let Some(tx) = self.locks.pop() {
+            pop_at(&mut self.numbers, &tx);
+        }
+    }
+
+    /// Drops the locks of the transaction; those of others stay as they are. Takes no memory, and looks at the
+    /// transaction's locks alone, each found in a tree.
     #[tactic(auto, unfolding(spec_model::specs::Holds::released))]
     pub fn release(&mut self, tx: TxId)
         ensures { self.new ≡ released self.old tx }
     {
-        note_moves(&self.holds, &mut self.moved, tx);
-        let holds = self.holds.as_slice();
-        self.places.retain(|place| stays(holds, *place, tx));
-        move_places(&mut self.places, &self.moved);
-        self.holds.retain(|hold| hold.tx != tx);
-        self.holders.retain(|holder| *holder != tx);
+        if let Some(numbers) = self.numbers.remove(&tx) {
+            self.locks.remove_all(tx, numbers);
+        }
     }
 
     fn holds_any(&self, tx: TxId) -> bool
         ensures { result ≡ holds_any self.now tx }
     {
-        is_known(&self.holders, tx)
+        !list_at(&self.numbers, &tx).is_empty()
     }
 
     fn holds_request(&self, tx: TxId, request: &LockRequest) -> bool
         ensures { result ≡ holds_request self.now tx request.now }
     {
-        let places = places_of(&self.holds, &self.places, &request.item);
-        already_holds(&self.holds, places, tx, request)
+        self.locks.holds_request(tx, request)
     }
 
     fn barrier(&self, tx: TxId, request: &LockRequest) -> Option<(TxId, Mode)>
         ensures { result ≡ barrier self.now tx request.now }
     {
-        let places = places_of(&self.holds, &self.places, &request.item);
-        barrier(&self.holds, places, tx, request)
+        self.locks.barrier(tx, request)
     }
 
     // Refuses where a want is barred.
@@ -170,22 +166,17 @@ impl LockList {
         ensures ok { OnOk result (self.new ≡ self.old ++ hold ∷ []) }
         ensures err { OnErr result (self.new ≡ self.old) }
     {
+        let alloc = self.alloc();
         let tx = hold.tx;
-        let place = self.holds.len();
-        let at = first_at(&self.holds, &self.places, &hold.request.item);
-        let known = is_known(&self.holders, tx);
-        make_room(&mut self.moved, place)?;
-        self.places.reserve(1)?;
-        self.holders.reserve(1)?;
-        self.holds.push(hold)?;
-        self.places.insert(at, place).unwrap();
-        if !known {
-            self.holders.push(tx).unwrap();
+        let number = self.locks.add(hold)?;
+        if push_at(alloc, &mut self.numbers, tx, number).is_err() {
+            self.locks.pop();
+            return Err(Memory);
         }
         Ok(())
     }
 
     fn alloc(&self) -> Global {
-        *self.holds.allocator()
+        self.locks.alloc()
     }
 }

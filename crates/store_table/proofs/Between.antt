@@ -11,8 +11,8 @@ use Rattle.sql_types.specs.declared.version.Version.{Version}
 use Rattle.spec_model.specs.Rows.{EventId, event_cmp, start_cmp}
 use Rattle.spec_model.specs.Runs.{Rising}
 use Rattle.law_frame.proofs.Sounds.{event_total}
-use Rattle.sql_apply.specs.Places.{place, starts_before}
-use Rattle.sql_apply.proofs.Places.{partitioned}
+use Rattle.store_table.specs.Places.{place, starts_before}
+use Rattle.store_table.proofs.Places.{partitioned}
 
 above_or_not : (m n : ℕ) → (m < n) ⊎ (n ≤ m)
 above_or_not m n = grind arith

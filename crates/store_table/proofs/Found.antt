@@ -12,7 +12,7 @@ use Rattle.spec_model.specs.Runs.{Rising}
 use Rattle.law_frame.proofs.Alls.{all_weaker}
 use Rattle.law_frame.proofs.Sounds.{event_total}
 use Rattle.law_journal.proofs.Counts.{same_parts}
-use Rattle.sql_apply.specs.Places.{place, starts_before}
+use Rattle.store_table.specs.Places.{place, starts_before}
 use Rattle.store_table.specs.Orders.{version_at}
 
 same_is : (a b : EventId) → same_event a b ≡ true → a ≡ b

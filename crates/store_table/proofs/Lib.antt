@@ -14,7 +14,9 @@ pub mod Moves
 pub mod Noted
 pub mod OfKey
 pub mod OneMore
+pub mod Owners
 pub mod Passing
+pub mod Places
 pub mod Rooms
 pub mod RowsMade
 pub mod Splits

@@ -8,7 +8,7 @@ use Rattle.std.specs.declared.cmp.Ordering.TheVariants.{Less, Equal, Greater}
 use Rattle.sql_types.specs.declared.version.Version.{Version}
 use Rattle.spec_model.specs.Rows.{EventId, event_cmp, start_cmp}
 use Rattle.spec_model.specs.Runs.{Rising}
-use Rattle.sql_apply.specs.Places.{place, starts_before}
+use Rattle.store_table.specs.Places.{place, starts_before}
 
 pub split_at : {A : Type 0} (xs : List A) (p : ℕ) (d : A) → p < length xs → xs ≡ take p xs ++ get_or xs p d ∷ drop (suc p) xs
 split_at [] p d inside = absurd (omega (arith, inside))

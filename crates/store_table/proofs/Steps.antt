@@ -13,8 +13,8 @@ use Rattle.spec_model.specs.Runs.{MadeBefore, Rising}
 use Rattle.law_frame.proofs.Alls.{all_append}
 use Rattle.law_frame.proofs.Sounds.{rising_changed}
 use Rattle.law_frame.proofs.UndoneTables.{first_few as all_take}
-use Rattle.sql_apply.specs.Places.{place}
-use Rattle.sql_apply.proofs.Places.{started_at}
+use Rattle.store_table.specs.Places.{place}
+use Rattle.store_table.proofs.Places.{started_at}
 use Rattle.store_table.specs.declared.index.Index.{Index}
 use Rattle.store_table.specs.declared.orders.Orders.{Orders}
 use Rattle.store_table.specs.Ends.{ending, ending_cmp, endings_in}

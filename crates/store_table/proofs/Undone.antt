@@ -11,7 +11,7 @@ use Rattle.spec_model.specs.Rows.{EventId, same_event}
 use Rattle.spec_model.specs.Runs.{Rising}
 use Rattle.spec_model.specs.Undo.{is_undone, end_left, end_undone, versions_undone}
 use Rattle.law_frame.proofs.Alls.{all_sorted}
-use Rattle.sql_apply.specs.Places.{place}
+use Rattle.store_table.specs.Places.{place}
 use Rattle.store_table.specs.declared.ending.Ending.{Ending}
 use Rattle.store_table.specs.Ends.{ending_cmp, own_ending, endings_of, endings_in}
 use Rattle.store_table.specs.Orders.{version_at}

@@ -3,6 +3,8 @@ pub mod Ends
 pub mod Kept
 pub mod Made
 pub mod Orders
+pub mod Owners
+pub mod Places
 pub mod Stopping
 pub mod Stored
 pub mod Undoing

@@ -2,7 +2,7 @@
 
 ghost use Rattle.std.specs.Prelude.{◌≡◌, ◌≤◌, ◌<◌, length};
 ghost use Rattle.spec_model.specs.Runs.{Rising};
-ghost use Rattle.sql_apply.specs.Places.{place, starts_before};
+ghost use Rattle.store_table.specs.Places.{place, starts_before};
 
 use sql_types::{EventId, Version};
 

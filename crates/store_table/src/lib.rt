@@ -14,6 +14,7 @@ mod leaves;
 mod live_by_key;
 mod noting;
 mod orders;
+mod own;
 mod reading;
 mod searching;
 mod showing;

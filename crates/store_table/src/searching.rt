@@ -6,7 +6,7 @@ ghost use Rattle.std.specs.Option.{option_copied};
 ghost use Rattle.spec_model.specs.Runs.{Rising};
 ghost use Rattle.spec_model.specs.Undo as undo;
 ghost use Rattle.spec_model.specs.Rows.{event_cmp};
-ghost use Rattle.sql_apply.specs.Places.{place};
+ghost use Rattle.store_table.specs.Places.{place};
 ghost use Rattle.store_table.specs.Orders as spec;
 ghost use Rattle.store_table.specs.Orders.{in_order, passes, starts_of};
 

@@ -1,6 +1,6 @@
 //! The versions of a table, with their key order and their indexes.
 
-ghost use Rattle.std.specs.Prelude.{◌≡◌, ◌≤◌, ◌<◌, ◌+◌, ◌^◌, ◌⊎◌, [], List, None, Some, IfOk, OnOk, OnErr, IfSome, IfNone, length, map};
+ghost use Rattle.std.specs.Prelude.{ℕ, ◌≡◌, ◌≤◌, ◌<◌, ◌+◌, ◌^◌, ◌⊎◌, [], List, None, Some, IfOk, OnOk, OnErr, IfSome, IfNone, flat_map, length, map};
 ghost use Rattle.std.specs.Prelude.{get_or, slice_get, slice_range, slice_set};
 ghost use Rattle.std.specs.List.{AllByRecursion, HoldsAt, remove};
 ghost use Rattle.sql_types.specs.declared.version.Version.{Version as SpecVersion};
@@ -13,6 +13,8 @@ ghost use Rattle.spec_model.specs.Keys as keys;
 ghost use Rattle.spec_model.specs.Rows.{EventId as SpecEventId, ended, started, with_end};
 ghost use Rattle.spec_model.specs.Runs.{MadeBefore, Rising};
 ghost use Rattle.spec_model.specs.Undo.{versions_undone};
+ghost use Rattle.sql_apply.specs.Own.{own};
+ghost use Rattle.sql_apply.specs.Short.{IsShort};
 ghost use Rattle.store_table.specs.Orders as orders;
 ghost use Rattle.store_table.specs.Stored.{Index as SpecIndex, rows_below, with_index, with_versions, without_last_index};
 ghost use Rattle.store_table.specs.Undoing.{EndsUndone, NoEndUndone, NoStartUndone, StartsUndone, without_end};
@@ -23,6 +25,7 @@ use crate::ending::{Ending, add_ending, last_ending};
 use crate::index::{Index, rows_below};
 use crate::leaves::leaves_of;
 use crate::orders::{Orders, add_live, reserve_orders, take_version};
+use crate::own::own_versions;
 use crate::reading::{OrderRange, versions_of};
 use crate::searching::{last_start, place_of_start, version_at};
 use base_types::{Blob, Items, Memory, TableId, TxId};
@@ -345,6 +348,25 @@ impl VersionStore {
             Change::Starts(values) => self.start(at, values),
             Change::Ends(start) => self.end(at, start),
         }
+    }
+
+    /// The versions that the transaction started or ended, by rising start: its events are theirs. It finds them
+    /// by halving, and looks at no other version.
+    pub fn own_versions(&self, alloc: Global, tx: TxId) -> Result<Vec<&Version>, Memory>
+        ensures events { IfOk result (λ found. (table : ℕ) → flat_map (own tx table) (map (λ v. v.now) found.items)
+            ≡ flat_map (own tx table) self.now.stored.versions) }
+        ensures short { AllByRecursion IsShort self.now.stored.versions
+            → IfOk result (λ found. AllByRecursion IsShort (map (λ v. v.now) found.items)) }
+    {
+        own_versions(alloc, &self.versions, &self.orders.ends, tx)
+    }
+
+    /// The versions, by rising start. Takes no memory.
+    pub fn into_versions(self) -> Vec<Version>
+        ensures { result.items ≡ self.stored.versions }
+    {
+        let VersionStore { versions, .. } = self;
+        versions
     }
 
     /// The leaves of the changes, one after another, as the events of the transaction that have the numbers

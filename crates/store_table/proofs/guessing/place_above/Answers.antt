@@ -1,5 +1,5 @@
 use Rattle.std.proofs.Common.{arith, ap, sym, ◌∙◌}
-use Rattle.sql_apply.specs.Places.{starts_before}
+use Rattle.store_table.specs.Places.{starts_before}
 use Rattle.store_table.proofs.Between.{fails_above, passes_below, place_within}
 use Rattle.store_table.proofs.guessing.place_above.Goals.{then-loop-high-test+else-starts_before, else-loop-high-test}
 use Rattle.store_table.proofs.guessing.place_above.Goals as goal

@@ -1,5 +1,5 @@
 use Rattle.std.proofs.Common.{length, ◌-◌, ◌≤◌}
-use Rattle.sql_apply.specs.Places.{place}
+use Rattle.store_table.specs.Places.{place}
 use Rattle.store_table.proofs.guessing.place_above.Given as goal
 
 abbrev pub invariant-loop-high : goal.invariant-loop-high

@@ -1,5 +1,5 @@
 use Rattle.std.proofs.Common.{arith, ap, sym, ◌∙◌, ◌-◌, ◌<◌, length}
-use Rattle.sql_apply.specs.Places.{starts_before}
+use Rattle.store_table.specs.Places.{starts_before}
 use Rattle.store_table.proofs.Between.{fails_above, passes_below}
 use Rattle.store_table.proofs.guessing.place_below.Goals.{then-loop-low-test+else-not-starts_before, else-loop-low-test}
 use Rattle.store_table.proofs.guessing.place_below.Goals as goal

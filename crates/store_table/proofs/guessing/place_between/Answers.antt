@@ -1,6 +1,6 @@
 use Rattle.std.proofs.Common.{rules, take, drop, ◌-◌}
 use Rattle.std.proofs.lemmas.List.Sorted.{IsPartitionPoint-from_clause}
-use Rattle.sql_apply.specs.Places.{starts_before}
+use Rattle.store_table.specs.Places.{starts_before}
 use Rattle.store_table.proofs.Between.{part_parted, part_place}
 use Rattle.store_table.proofs.guessing.place_between.Goals as goal
 

@@ -3,8 +3,8 @@ use Rattle.std.proofs.lemmas.List.{get_or_default}
 use Rattle.std.specs.Prelude.{slice_set}
 use Rattle.sql_types.specs.declared.version.Version.{Version}
 use Rattle.spec_model.specs.Rows.{ended, with_end}
-use Rattle.sql_apply.specs.Places.{place}
-use Rattle.sql_apply.proofs.Places.{all_before, none_ends, one_ends}
+use Rattle.store_table.specs.Places.{place}
+use Rattle.store_table.proofs.Places.{all_before, none_ends, one_ends}
 use Rattle.store_table.specs.Stored.{ReservedTable, with_versions}
 use Rattle.store_table.proofs.Steps.{followed}
 use Rattle.store_table.proofs.version_store.VersionStore.end.Goals.{else-place-len-via-then-place-len+else-eq, else-place-len-via-else-place-len}

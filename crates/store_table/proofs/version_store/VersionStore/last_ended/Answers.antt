@@ -1,6 +1,6 @@
 use Rattle.std.proofs.Common.{ap, sym, subst, ◌∙◌, List, ℕ}
 use Rattle.std.specs.List.{Contains}
-use Rattle.sql_apply.specs.Places.{place}
+use Rattle.store_table.specs.Places.{place}
 use Rattle.store_table.specs.declared.ending.Ending.{Ending}
 use Rattle.store_table.specs.Stored.{ReservedTable}
 use Rattle.store_table.specs.Undoing.{EndsUndone, NoEndUndone}

@@ -3,8 +3,8 @@ use Rattle.std.specs.List.{AllByRecursion, insert}
 use Rattle.sql_types.specs.declared.version.Version.{Version}
 use Rattle.spec_model.specs.Rows.{started}
 use Rattle.spec_model.specs.Runs.{MadeBefore}
-use Rattle.sql_apply.specs.Places.{place}
-use Rattle.sql_apply.proofs.Places.{started_at}
+use Rattle.store_table.specs.Places.{place}
+use Rattle.store_table.proofs.Places.{started_at}
 use Rattle.store_table.specs.Kept.{IsKept, IndexesAreWith}
 use Rattle.store_table.specs.Stored.{ReservedTable}
 use Rattle.store_table.proofs.Done.{if_ok}
