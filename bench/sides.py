@@ -7,6 +7,9 @@
     sides.py columns PROGRAM [TIMES [COUNT]]  the same of 3 sessions that insert, update and read while a fourth adds
                                             columns to their table and drops them; what a SELECT that is a transaction
                                             of its own shows, `asof` has to show at the place of its end line
+    sides.py snapshots PROGRAM [TIMES [COUNT]]  the same of these four with five snapshots among them: what a snapshot
+                                            was answered, `asof` has to answer of the image that it names and of the
+                                            last one, behind as many transactions as that image has
     sides.py cost PROGRAM [ROUNDS]          4 sessions on 4 tables, the same statements by `step` and by `run` in
                                             turns: seconds by the clock, the least of ROUNDS (5)
 
@@ -16,6 +19,7 @@ that of a run that fails stays.
 import glob
 import json
 import os
+import pathlib
 import random
 import re
 import shutil
@@ -23,6 +27,9 @@ import subprocess
 import sys
 import tempfile
 import time
+
+sys.path.insert(0, os.path.join(os.path.dirname(os.path.abspath(__file__)), "..", "tools"))
+from ledger import Transaction, read_journal  # noqa: E402
 
 DIGEST = "EXECUTE sp_generate_database_ledger_digest"
 
@@ -77,6 +84,40 @@ def altering(count, seed):
                  f"UPDATE a SET v = 1 WHERE id = {new}", "ROLLBACK TRANSACTION p", "COMMIT"]])
 
 
+def texts_of_snapshot(source, count):
+    """What a snapshot is asked: SELECTs of all parts, some of which are refused, and what is none."""
+    for _ in range(count):
+        yield source.choice([
+            "SELECT * FROM a", "SELECT COUNT(*), SUM(v) FROM a", f"SELECT * FROM a WHERE id = {source.randrange(2)}",
+            f"SELECT id, w{source.randrange(7)} FROM a ORDER BY id DESC", "SELECT * FROM a_Ledger",
+            "SELECT * FROM MSSQL_LedgerHistoryFor_3", "SELECT * FROM sys_ledger_columns",
+            "SELECT COUNT(*) FROM sys_ledger_tables", "SELECT * FROM b", "SELECT * FROM a WHERE v = 'x'",
+            "DELETE FROM a", "SAVE IMAGE", "BEGIN TRANSACTION", "SELEC", "SELECT * FROM a -- all"])
+
+
+def reading(count, seed):
+    """These four, with a snapshot before each and one behind the last."""
+    source, number = random.Random(-1 - seed), 0
+    for line in [*altering(count, seed), None]:
+        if line is None or line.startswith("-- session"):
+            yield f"-- snapshot r{number}"
+            yield from texts_of_snapshot(source, count)
+            number += 1
+        if line is not None:
+            yield line
+
+
+def snapshots_of(lines, transcript):
+    """Of each snapshot of an input its texts, the number of items of its image, and what they were answered."""
+    heads = [n for n, line in enumerate(lines) if line.startswith("--")]
+    for head, end in zip(heads, heads[1:] + [len(lines)]):
+        if lines[head].startswith("-- snapshot "):
+            name = lines[head].split()[2]
+            entries = re.findall(rf"^{name}: (.*\n(?:  .*\n)+)", transcript, re.MULTILINE)
+            kept = re.fullmatch(r"SAVE IMAGE\n  image (\d+)\n", entries[0])
+            yield lines[head + 1:end], kept and kept[1], "".join(entries[1:])
+
+
 def reads_of(transcript):
     """Of each SELECT that was a transaction of its own and met no lock: how many were committed, and its entry."""
     for entry in re.findall(r"^\w+: (SELECT .*\n(?:  .*\n)+)", transcript, re.MULTILINE):
@@ -113,6 +154,14 @@ def fault_of(program, folder, lines):
             with open(f"{folder}/side.{end}", "rb") as first, open(f"{folder}/again.{end}", "rb") as second:
                 if first.read() != second.read():
                     return f"replay leads to another {end}"
+        items = read_journal(pathlib.Path(folder, "side.journal").read_bytes())[1]
+        for texts, kept, answers in snapshots_of(lines, transcript):
+            if kept is None:
+                return "a snapshot has no image"
+            place = sum(isinstance(item, Transaction) for item in items[:int(kept)])
+            for image in f"side-{kept}.img", "side.img":
+                if call(program, folder, "asof", image, str(place), lines=texts) != (0, answers):
+                    return f"asof {place} of {image} answers a snapshot's texts otherwise"
         for place, entry in reads_of(transcript):
             if call(program, folder, "asof", "side.img", str(place), lines=entry[:1])[1].splitlines() != entry:
                 return f"asof {place} answers {entry[0]} otherwise"
@@ -137,6 +186,10 @@ def runs(program, times=1000, count=20, statements=contention):
 
 def columns(program, times=1000, count=20):
     return runs(program, times, count, altering)
+
+
+def snapshots(program, times=1000, count=20):
+    return runs(program, times, count, reading)
 
 
 def one_row(session):
@@ -175,7 +228,7 @@ def cost(program, rounds=5):
 
 
 if __name__ == "__main__":
-    if len(sys.argv) < 3 or sys.argv[1] not in ("runs", "columns", "cost"):
+    if len(sys.argv) < 3 or sys.argv[1] not in ("runs", "columns", "snapshots", "cost"):
         sys.exit(__doc__)
-    what = {"runs": runs, "columns": columns, "cost": cost}[sys.argv[1]]
+    what = {"runs": runs, "columns": columns, "snapshots": snapshots, "cost": cost}[sys.argv[1]]
     sys.exit(1 if what(os.path.abspath(sys.argv[2]), *map(int, sys.argv[3:])) else 0)

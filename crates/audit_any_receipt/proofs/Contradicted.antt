@@ -4,7 +4,7 @@ use Rattle.sql_types.specs.declared.digest.HeldDigest.{HeldDigest}
 use Rattle.sql_types.specs.declared.image.Image.{Image}
 use Rattle.format_image.specs.ImageBytes.{IsImage}
 use Rattle.audit_chain.proofs.Continuing.{each_holds}
-use Rattle.law_receipt.proofs.Agreeing.{agrees_with_image}
+use Rattle.law_row_receipt.proofs.Agreeing.{agrees_with_image}
 use Rattle.law_row_receipt.proofs.Rows.{all_shown, one_shown}
 use Rattle.audit_any_receipt.specs.declared.any.AnyReceipt.{AnyReceipt}
 use Rattle.audit_any_receipt.specs.declared.any.AnyReceipt.TheVariants as kinds

@@ -6,3 +6,4 @@ pub mod Leaves
 pub mod Meets
 pub mod Parts
 pub mod Strings
+pub use Rattle.spec_verify.specs.Collision

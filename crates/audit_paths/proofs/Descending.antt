@@ -2,7 +2,7 @@
 use Rattle.std.proofs.Common.{◌≡◌, ◌≢◌, ◌≤◌, ◌<◌, ◌^◌, ℕ, Bool, true, false, List, [], ◌∷◌, ◌++◌, length, Option, Some, None, refl, arith, sym, ◌∙◌, ap, subst}
 use Rattle.std.specs.Prelude.{IsSome, eqb, if◌then◌else◌, zip}
 use Rattle.std.specs.Option.{option_map}
-use Rattle.spec_verify.specs.Collision.{Collides}
+use Rattle.audit_extract.specs.Collision.{Collides}
 use Rattle.audit_paths.specs.declared.side.Side.{Side}
 use Rattle.audit_paths.specs.Path.{sides_of, Step, node_of, climbed, root_over, root_under, HaveOneRoot, AreHashes}
 use Rattle.audit_paths.proofs.Climbing.{halves_of, behind_first}

@@ -13,3 +13,4 @@ pub mod Tell
 pub mod Transfer
 pub mod Upgrade
 pub mod Verify
+pub use Rattle.audit_any_receipt.specs.declared.make.Wanted

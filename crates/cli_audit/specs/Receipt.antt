@@ -11,7 +11,7 @@ use Rattle.format_image.specs.ImageBytes.{IsImage, IsSpellingOf}
 use Rattle.spec_verify.specs.declared.place.Verdict.{Verdict}
 use Rattle.spec_verify.specs.declared.place.Verdict.TheVariants.{Yes}
 use Rattle.spec_verify.specs.Bytes.{verdict_of}
-use Rattle.audit_chain.specs.Continues.{first_block}
+use Rattle.audit_any_receipt.specs.Continues.{first_block}
 use Rattle.audit_any_receipt.specs.declared.any.AnyReceipt.{AnyReceipt}
 use Rattle.audit_any_receipt.specs.declared.any.AnyReceipt.TheVariants as kinds
 use Rattle.audit_any_receipt.specs.declared.make.Wanted.{Wanted}

@@ -16,6 +16,7 @@ mod upgrade;
 mod verify;
 
 pub use asof::answer_as_of;
+pub use audit_any_receipt::Wanted;
 pub use check::check_receipt;
 pub use extract::compare_images;
 pub use files::{File, file_of, image_file, put_and_write};

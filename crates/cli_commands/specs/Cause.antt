@@ -15,7 +15,7 @@ use Rattle.cli_audit.specs.Tell.{TellCause}
 use Rattle.cli_audit.specs.Upgrade.{UpgradeCause}
 use Rattle.cli_audit.specs.Verify.{VerifyCause}
 use Rattle.cli_commands.specs.Words.{wanted_of}
-use Rattle.audit_any_receipt.specs.declared.make.Wanted.TheVariants as wanted
+use Rattle.cli_audit.specs.Wanted.TheVariants as wanted
 
 -- Each command has its causes, by what the input and the vault tell and by whose faults rose in the call.
 -- Words comes exactly where the words say none, unless want of memory comes first: the words are read by

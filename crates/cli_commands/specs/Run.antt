@@ -61,7 +61,7 @@ pub record SectionsComeTo (h : List ℕ → List ℕ) (how : Settings) (clock : 
     (all_sections : RunSections) (o : Output) : Type 0 where
   pub left : RunResult
   pub came : all.CameTo h how.database how.block_size (said_with how.clock clock) all_sections left
-  pub is : IsOf h left o
+  pub is : IsOf h all_sections left o
 
 -- What the input says, which has this form and its limits, came to this.
 pub record IsRun {A : Type 0} (form : InputForm A) (comes_to : A → Output → Type 0) (bytes : List ℕ)

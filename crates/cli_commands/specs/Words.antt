@@ -5,8 +5,8 @@ use Rattle.cli_words.specs.Help.{help_of}
 use Rattle.cli_words.specs.declared.help.TheConstants.{VERSION}
 use Rattle.cli_words.specs.declared.part.Part.{Part}
 use Rattle.cli_words.specs.declared.part.Part.TheVariants as shown
-use Rattle.audit_any_receipt.specs.declared.make.Wanted.{Wanted}
-use Rattle.audit_any_receipt.specs.declared.make.Wanted.TheVariants as wanted
+use Rattle.cli_audit.specs.Wanted.{Wanted}
+use Rattle.cli_audit.specs.Wanted.TheVariants as wanted
 
 -- what is so of the name that `step` is given, and of its settings
 abbrev pub OfStep : Option Command → (List ℕ → Settings → Type 0) → Type 0

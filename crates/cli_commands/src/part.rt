@@ -8,10 +8,9 @@ ghost use Rattle.cli_audit.specs.Calls.{AreGetsAndPuts, AreWrites};
 ghost use Rattle.cli_audit.specs.Receipt.{ReceiptCause, Receipted, SaysNo, ReceiptedOrIdle, PutsReceipt};
 ghost use Rattle.cli_commands.specs.Words.{wanted_of};
 
-use audit_any_receipt::Wanted;
 use base_io::{Sink, Vault};
 use base_merkle::Hash32;
-use cli_audit::{Status, make_receipt};
+use cli_audit::{Status, Wanted, make_receipt};
 use cli_words::Part;
 use std::alloc::Global;
 

@@ -29,13 +29,12 @@ use crate::generate::generate;
 use crate::part::receipt_of_part;
 use crate::run::run_side_by_side;
 use crate::step::step;
-use audit_any_receipt::Wanted;
 use base_io::{Clock, Gate, Sink, Source, Vault};
 use base_merkle::Sha256Hash;
 use base_types::Memory;
 use cli_audit::{
-    Status, answer_as_of, check_receipt, compare_images, make_receipt, replay_journal, tell_text,
-    upgrade_image, verify_image,
+    Status, Wanted, answer_as_of, check_receipt, compare_images, make_receipt, replay_journal,
+    tell_text, upgrade_image, verify_image,
 };
 use cli_words::{Command, VERSION, help_text, read_command};
 use std::alloc::Global;

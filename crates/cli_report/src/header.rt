@@ -45,26 +45,32 @@ fn behind_word<'a>(text: &'a [u8], word: &[u8]) -> Option<&'a [u8]> {
     }
 }
 
-/// Whether the line begins a section, or would if it had a name.
-fn is_header(line: &[u8]) -> bool {
-    if line == b"-- setup".as_slice() {
-        return true;
-    }
-    let (front, rest) = line.split_at(line.len().min(10));
-    front == b"-- session".as_slice()
+/// Whether a line is this head, or has a blank behind it.
+fn has_head(line: &[u8], head: &[u8]) -> bool {
+    let (front, rest) = line.split_at(line.len().min(head.len()));
+    front == head
         && match rest {
             [next, ..] => is_blank(*next),
             [] => true,
         }
 }
 
+/// Whether the line begins a section, or would if it had a name.
+fn is_header(line: &[u8]) -> bool {
+    line == b"-- setup".as_slice()
+        || has_head(line, b"-- session")
+        || has_head(line, b"-- snapshot")
+}
+
 /// Whether a line without blanks at its ends is a comment that looks as if it began a section, as `--session bob`
-/// and `-- Session bob`. It may be cut off behind its first words.
+/// and `-- Snapshot bob`. It may be cut off behind its first words.
 pub(crate) fn looks_like_header(line: &[u8]) -> bool {
     let Some(text) = behind_hyphens(line) else {
         return false;
     };
     let text = behind_blanks(text);
-    let is_like = behind_word(text, b"session").is_some() || behind_word(text, b"setup").is_some();
+    let is_like = behind_word(text, b"session").is_some()
+        || behind_word(text, b"snapshot").is_some()
+        || behind_word(text, b"setup").is_some();
     is_like && !is_header(line)
 }

@@ -123,8 +123,9 @@ pub const RUN_HELP: &str =
 Runs the sections of standard input and prints what their statements were
 answered. The lines behind `-- setup`, the first section, are run first, in
 their order; then those behind each `-- session S`, each of these sessions in a
-thread of its own beside the others, while another thread closes blocks. Any
-other line that begins with `--` is a comment.
+thread of its own beside the others, while another thread closes blocks. A
+session `-- snapshot S` keeps an image, over which the SELECTs behind that line
+are answered, as by `asof`. Any other line that begins with `--` is a comment.
 It puts in the current folder the files that `step` puts: NAME-m.img for each
 number m that a SAVE IMAGE answered, NAME.img, NAME.digests and NAME.journal. N,
 T and D are those of `step`.
@@ -141,7 +142,7 @@ and its cure:
   E15 no such savepoint               E16 a limit is passed
   E17 not inside a transaction        E18 more or fewer values than columns
   E19 nothing is committed            E20 locked by the transaction behind it
-  E30 no memory
+  E21 no SELECT, of a snapshot        E30 no memory
 
 Example, from the top of the repository; it puts seats.img, seats.digests and
 seats.journal:

@@ -6,7 +6,8 @@ use Rattle.std.specs.Cmp.Lexicographic.{nat_list_eq_equiv}
 use Rattle.std.proofs.lemmas.List.Elements.{All-push}
 use Rattle.std.proofs.lemmas.List.Folds.{list_any-append}
 use Rattle.std.proofs.lemmas.Map.Keys.{IsDistinct-push}
-use Rattle.format_sections.specs.Kind.{Kind, Skipped, SetupLine, SessionLine, Statement, NoText}
+use Rattle.format_sections.specs.declared.kind.SectionKind.{SectionKind}
+use Rattle.format_sections.specs.Kind.{Kind, Skipped, SetupLine, SectionLine, Statement, NoText}
 use Rattle.format_sections.specs.Form.{is_session_name, counts, begins_section, names_of, has_come, lacks_form, first_lacking, HaveForm, IsFirstLacking}
 use Rattle.format_sections.specs.RunSections.{Section, statements_of, setup_of, sessions_of, run_sections_of, statements_of_sections, texts_of}
 use Rattle.format_sections.proofs.Reached.{none_behind, true_false, any_last, any_more, names_joined, none_begins}
@@ -23,7 +24,7 @@ pub names_sessions : (lines : List Kind) → map (λ s. s.name) (sessions_of lin
 names_sessions [] = refl
 names_sessions (Skipped ∷ lines) = names_sessions lines
 names_sessions (SetupLine ∷ lines) = names_sessions lines
-names_sessions (SessionLine name ∷ lines) = ap (λ z. name ∷ z) (names_sessions lines)
+names_sessions (SectionLine kind name ∷ lines) = ap (λ z. name ∷ z) (names_sessions lines)
 names_sessions (Statement text ∷ lines) = names_sessions lines
 names_sessions (NoText ∷ lines) = names_sessions lines
 
@@ -36,9 +37,9 @@ form_of true come e = (refl, e)
 form_of false come e = cc
 
 names_last : (before : List Kind) (line : Kind) → AreNames (names_of before) → lacks_form before line ≡ false → AreNames (names_of (before ++ line ∷ []))
-names_last before (SessionLine name) known e =
+names_last before (SectionLine kind name) known e =
     let ok = form_of (is_session_name name) (has_come before name) e in
-    subst AreNames (sym (names_joined before (SessionLine name ∷ [])))
+    subst AreNames (sym (names_joined before (SectionLine kind name ∷ [])))
     (All-push (λ n. is_session_name n ≡ true) (names_of before) name known.0 ok.0, IsDistinct-push nat_list_eq_equiv (codes "setup" ∷ names_of before) name known.1 ok.1)
 names_last before Skipped known e = subst AreNames (sym (names_joined before (Skipped ∷ []) ∙ none_behind (names_of before))) known
 names_last before SetupLine known e = subst AreNames (sym (names_joined before (SetupLine ∷ []) ∙ none_behind (names_of before))) known
@@ -62,19 +63,19 @@ no_names = ((λ k d l. absurd (none k l)), IsDistinct-push nat_list_eq_equiv [] 
 pub named : (lines : List Kind) → first_lacking [] lines ≡ None → AreNames (map (λ s. s.name) (sessions_of lines))
 named lines e = subst AreNames (sym (names_sessions lines)) (names_all [] lines no_names e)
 
-pub section_at : (before more : List Kind) (name : List ℕ) → slice_get (sessions_of (before ++ SessionLine name ∷ more)) (length (names_of before)) ≡ Some (record { name = name; statements = statements_of more })
-section_at [] more name = refl
-section_at (Skipped ∷ before) more name = section_at before more name
-section_at (SetupLine ∷ before) more name = section_at before more name
-section_at (SessionLine other ∷ before) more name = section_at before more name
-section_at (Statement text ∷ before) more name = section_at before more name
-section_at (NoText ∷ before) more name = section_at before more name
+pub section_at : (before more : List Kind) (kind : SectionKind) (name : List ℕ) → slice_get (sessions_of (before ++ SectionLine kind name ∷ more)) (length (names_of before)) ≡ Some (record { name = name; kind = kind; statements = statements_of more })
+section_at [] more kind name = refl
+section_at (Skipped ∷ before) more kind name = section_at before more kind name
+section_at (SetupLine ∷ before) more kind name = section_at before more kind name
+section_at (SectionLine k other ∷ before) more kind name = section_at before more kind name
+section_at (Statement text ∷ before) more kind name = section_at before more kind name
+section_at (NoText ∷ before) more kind name = section_at before more kind name
 
 pub sections_count : (lines : List Kind) → length (sessions_of lines) ≡ length (names_of lines)
 sections_count [] = refl
 sections_count (Skipped ∷ lines) = sections_count lines
 sections_count (SetupLine ∷ lines) = sections_count lines
-sections_count (SessionLine name ∷ lines) = ap suc (sections_count lines)
+sections_count (SectionLine kind name ∷ lines) = ap suc (sections_count lines)
 sections_count (Statement text ∷ lines) = sections_count lines
 sections_count (NoText ∷ lines) = sections_count lines
 
@@ -90,8 +91,8 @@ texts_behind : (before lines : List Kind) → list_any counts before ≡ true �
 texts_behind before [] begun e = refl
 texts_behind before (Skipped ∷ lines) begun e = texts_behind (before ++ Skipped ∷ []) lines (any_more counts before (Skipped ∷ []) begun) (fits_first before lines Skipped e).1
 texts_behind before (SetupLine ∷ lines) begun e = absurd (true_not_false (list_any counts before) begun (fits_first before lines SetupLine e).0)
-texts_behind before (SessionLine name ∷ lines) begun e =
-    texts_behind (before ++ SessionLine name ∷ []) lines (any_more counts before (SessionLine name ∷ []) begun) (fits_first before lines (SessionLine name) e).1
+texts_behind before (SectionLine kind name ∷ lines) begun e =
+    texts_behind (before ++ SectionLine kind name ∷ []) lines (any_more counts before (SectionLine kind name ∷ []) begun) (fits_first before lines (SectionLine kind name) e).1
 texts_behind before (Statement text ∷ lines) begun e =
     ap (λ z. text ∷ z) (texts_behind (before ++ Statement text ∷ []) lines (any_more counts before (Statement text ∷ []) begun) (fits_first before lines (Statement text) e).1)
 texts_behind before (NoText ∷ lines) begun e = absurd (true_not_false true refl (fits_first before lines NoText e).0)
@@ -104,8 +105,8 @@ texts_from before [] none e = refl
 texts_from before (Skipped ∷ lines) none e =
     texts_from (before ++ Skipped ∷ []) lines (list_any-append counts before (Skipped ∷ []) ∙ or_false_both (list_any counts before) none) (fits_first before lines Skipped e).1
 texts_from before (SetupLine ∷ lines) none e = texts_behind (before ++ SetupLine ∷ []) lines (any_last counts before SetupLine refl) (fits_first before lines SetupLine e).1
-texts_from before (SessionLine name ∷ lines) none e =
-    texts_behind (before ++ SessionLine name ∷ []) lines (any_last counts before (SessionLine name) refl) (fits_first before lines (SessionLine name) e).1
+texts_from before (SectionLine kind name ∷ lines) none e =
+    texts_behind (before ++ SectionLine kind name ∷ []) lines (any_last counts before (SectionLine kind name) refl) (fits_first before lines (SectionLine kind name) e).1
 texts_from before (Statement text ∷ lines) none e = absurd (not_in (list_any begins_section before) (none_begins before none) (fits_first before lines (Statement text) e).0)
   where
     not_in : (t : Bool) → t ≡ false → not t ≡ false → ⊥

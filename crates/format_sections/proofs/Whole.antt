@@ -9,7 +9,7 @@ use Rattle.format_sections.specs.Form.{is_session_name, first_lacking}
 use Rattle.format_sections.specs.Kind.{kinds_of}
 use Rattle.format_sections.specs.Names.{has}
 use Rattle.format_sections.specs.RunSections.{Section, RunSections, setup_of, sessions_of, run_sections_of, unless_lacking, read_run_sections, session_names}
-use Rattle.format_sections.specs.UnreadInput.{first_name}
+use Rattle.format_sections.specs.UnreadInput.{first_head}
 use Rattle.format_sections.proofs.Reached.{Reached, failed, none_behind}
 use Rattle.format_sections.proofs.Laws.{named}
 use Rattle.format_sections.proofs.Sizes.{all_sections}
@@ -39,7 +39,7 @@ finished bytes rest setup sessions names r end =
 
 -- the next line lacks its form
 pub refused : (bytes rest : List ℕ) (setup : List (List ℕ)) (sessions : List Section) (names : BTreeSet (Bor (List ℕ))) (number : ℕ) → Reached (kinds_of bytes) (kinds_of rest) setup sessions (has names) → 0 < length (kinds_of rest)
-    → first_name names (kinds_of rest) ≡ None → number + length (kinds_of rest) ≡ length (kinds_of bytes) → read_run_sections bytes ≡ Err (number + 1)
+    → first_head names (kinds_of rest) ≡ None → number + length (kinds_of rest) ≡ length (kinds_of bytes) → read_run_sections bytes ≡ Err (number + 1)
 unfolding read_run_sections
 refused bytes rest setup sessions names number r some e size =
     ap (λ first. unless_lacking first (run_sections_of (kinds_of bytes))) (failed (kinds_of bytes) (kinds_of rest) setup sessions names number r some e size)

@@ -2,8 +2,9 @@
 use Rattle.std.specs.Prelude.{ℕ, ◌&&◌, not, if◌then◌else◌, List, [], ◌∷◌, Option, Some, None}
 use Rattle.std.specs.Borrow.{Bor}
 use Rattle.std.specs.BTreeSet.{BTreeSet}
+use Rattle.format_sections.specs.declared.kind.SectionKind.{SectionKind}
 use Rattle.format_sections.specs.Form.{is_session_name}
-use Rattle.format_sections.specs.Kind.{Kind, Skipped, SetupLine, SessionLine, Statement}
+use Rattle.format_sections.specs.Kind.{Kind, Skipped, SetupLine, SectionLine, Statement}
 use Rattle.format_sections.specs.Names.{has}
 use Rattle.format_sections.specs.RunSections.{statements_of}
 
@@ -36,12 +37,13 @@ behind_setup [] = []
 behind_setup (SetupLine ∷ more) = behind_section more
 behind_setup (line ∷ more) = line ∷ more
 
--- the name that a line gives to a session, where it is none of these
-abbrev pub new_name : BTreeSet (Bor (List ℕ)) → Kind → Option (List ℕ)
-new_name names (SessionLine name) = if is_session_name name && not (has names name) then Some name else None
-new_name names _ = None
+-- the kind and the name of the section that a line begins, where the name is none of these
+abbrev pub new_head : BTreeSet (Bor (List ℕ)) → Kind → Option (SectionKind × List ℕ)
+new_head names (SectionLine kind name) =
+    if is_session_name name && not (has names name) then Some (kind, name) else None
+new_head names _ = None
 
--- the name that the first line gives to a session
-abbrev pub first_name : BTreeSet (Bor (List ℕ)) → List Kind → Option (List ℕ)
-first_name names [] = None
-first_name names (line ∷ more) = new_name names line
+-- those of the section that the first line begins
+abbrev pub first_head : BTreeSet (Bor (List ℕ)) → List Kind → Option (SectionKind × List ℕ)
+first_head names [] = None
+first_head names (line ∷ more) = new_head names line

@@ -8,12 +8,12 @@ ghost use Rattle.format_sections.specs.Form.{is_session_name};
 ghost use Rattle.format_sections.specs.RunSections.{run_sections_view, read_run_sections, session_names, size_of};
 
 use crate::names::first_names;
-use crate::section::{Section, SectionsErr, behind_skipped, read_session, read_setup};
+use crate::section::{Section, SectionsErr, behind_skipped, read_section, read_setup};
 use format_lines::MAX_SESSIONS;
 use std::alloc::Global;
 
-/// What is run: the statements of the setup, none where there is no setup, and the sessions by their order in
-/// the input, of whose names none stands twice and none is `setup`.
+/// What is run: the statements of the setup, none where there is no setup, and the sections of sessions by their
+/// order in the input, of whose names none stands twice and none is `setup`.
 #[derive(Debug, Drop)]
 pub struct RunSections<'a> {
     pub setup: Vec<&'a str>,
@@ -37,7 +37,7 @@ pub fn read_run_sections<'a>(alloc: Global, input: &'a [u8]) -> Result<RunSectio
     let mut sessions = Vec::new(alloc);
     let mut rest = behind;
     while !rest.bytes.is_empty() {
-        let (session, behind) = read_session(alloc, &mut names, rest)?;
+        let (session, behind) = read_section(alloc, &mut names, rest)?;
         sessions.push(session)?;
         rest = behind;
     }

@@ -1,11 +1,19 @@
 //! What one line of the input is.
 
-ghost use Rattle.std.specs.Prelude.{◌≡◌, ◌∷◌, ◌+◌, ◌<◌, ◌≤◌, ◌^◌, length, drop, option_map, if◌then◌else◌, Some, None};
-ghost use Rattle.format_lines.specs.Line.{behind_blanks};
+ghost use Rattle.std.specs.Prelude.{◌≡◌, ◌∷◌, ◌+◌, ◌<◌, ◌≤◌, ◌^◌, length, option_map, if◌then◌else◌, Some, None};
 ghost use Rattle.format_sections.specs.Kind as spec;
 ghost use Rattle.format_sections.specs.Kind.{kind_view, kinds_of, kind_of};
 
 use format_lines::{before_blanks, behind_blanks, first_line, is_blank, is_skipped};
+
+/// What a section is of.
+#[derive(Clone, Copy, Debug, PartialEq, Eq)]
+pub enum SectionKind {
+    /// A session, which runs the statements.
+    Session,
+    /// A session that keeps an image, over which the statements are answered.
+    Snapshot,
+}
 
 /// What a line is.
 #[derive(Clone, Copy)]
@@ -14,8 +22,8 @@ pub(crate) enum LineKind<'a> {
     Skipped,
     /// The line that begins the statements of the setup.
     Setup,
-    /// A line that begins a session's, and what it has for the name.
-    Session(&'a str),
+    /// A line that begins those of a section of this kind, and what it has for the name.
+    Section(SectionKind, &'a str),
     Statement(&'a str),
     /// Not in UTF-8.
     NoText,
@@ -38,12 +46,12 @@ fn is_apart(text: &str) -> bool
     }
 }
 
-/// What a line that begins a session has for the name.
-fn session_name(text: &str) -> Option<&str>
+/// What stands behind a head and its blanks, where the line begins with the head.
+fn name_behind<'a>(head: &str, text: &'a str) -> Option<&'a str>
     ensures { option_map (λ name. name.now) result
-        ≡ (if spec.begins_session text.now then Some (behind_blanks (drop 10 text.now)) else None) }
+        ≡ (if spec.begins_with head.now text.now then Some (spec.name_behind head.now text.now) else None) }
 {
-    let rest = text.strip_prefix("-- session")?;
+    let rest = text.strip_prefix(head)?;
     if is_apart(rest) {
         Some(behind_blanks(rest))
     } else {
@@ -55,10 +63,16 @@ fn session_name(text: &str) -> Option<&str>
 fn kind_of_others(text: &str) -> LineKind<'_>
     ensures { kind_view result ≡ spec.kind_of_others text.now }
 {
-    match session_name(text) {
-        Some(name) => LineKind::Session(name),
-        None if is_skipped(text) => LineKind::Skipped,
-        None => LineKind::Statement(text),
+    if let Some(name) = name_behind("-- session", text) {
+        return LineKind::Section(SectionKind::Session, name);
+    }
+    if let Some(name) = name_behind("-- snapshot", text) {
+        return LineKind::Section(SectionKind::Snapshot, name);
+    }
+    if is_skipped(text) {
+        LineKind::Skipped
+    } else {
+        LineKind::Statement(text)
     }
 }
 

@@ -1,4 +1,5 @@
-//! Reads the input of the command `run`: the statements of a setup, and sections with those of a session each.
+//! Reads the input of the command `run`: the statements of a setup, and sections with those of a session or of a
+//! snapshot each.
 #![tactic(auto)]
 
 mod all_sections;
@@ -8,5 +9,6 @@ mod names;
 mod section;
 
 pub use all_sections::{RunSections, has_many_sessions, read_run_sections};
+pub use kind::SectionKind;
 pub use law::{form_law, sections_law, statements_law};
 pub use section::{Section, SectionsErr};

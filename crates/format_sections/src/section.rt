@@ -4,21 +4,47 @@ ghost use Rattle.std.specs.Prelude.{◌≡◌, ◌||◌, ◌+◌, ◌<◌, ◌�
 ghost use Rattle.std.specs.Str.{bytes_eq};
 ghost use Rattle.format_sections.specs.Kind.{kind_view, kinds_of};
 ghost use Rattle.format_sections.specs.Names.{has};
-ghost use Rattle.format_sections.specs.RunSections.{statements_of};
+ghost use Rattle.format_sections.specs.RunSections.{section_view, statements_of, statements_answered, statements_run};
 ghost use Rattle.format_sections.specs.UnreadInput as spec;
-ghost use Rattle.format_sections.specs.UnreadInput.{behind_first, behind_section, behind_setup, setup_at, first_name};
+ghost use Rattle.format_sections.specs.UnreadInput.{behind_first, behind_section, behind_setup, setup_at, first_head};
 
-use crate::kind::{LineKind, UnreadInput, next_line};
+use crate::kind::{LineKind, SectionKind, UnreadInput, next_line};
 use crate::names::add_name;
 use base_types::{Memory, is_session_name};
 use std::alloc::{AllocFailed, Global};
 use std::collections::BTreeSet;
 
-/// The statements of one session, in their order. They and the name are parts of the input.
+/// The statements of one section, in their order. They and the name are parts of the input.
 #[derive(Debug, Drop)]
 pub struct Section<'a> {
     pub name: &'a str,
+    pub kind: SectionKind,
     pub statements: Vec<&'a str>,
+}
+
+/// What the session of a snapshot runs.
+const SNAPSHOT_STATEMENTS: [&str; 1] = ["SAVE IMAGE"];
+
+impl<'a> Section<'a> {
+    /// The statements that its session runs: that of a snapshot runs one, which keeps the image.
+    pub fn statements_run(&self) -> &[&'a str]
+        ensures { map (λ t. t.now) result.now ≡ statements_run (section_view self.now) }
+    {
+        match self.kind {
+            SectionKind::Session => &self.statements,
+            SectionKind::Snapshot => &SNAPSHOT_STATEMENTS,
+        }
+    }
+
+    /// Those that are answered over this image.
+    pub fn statements_answered(&self) -> &[&'a str]
+        ensures { map (λ t. t.now) result.now ≡ statements_answered (section_view self.now) }
+    {
+        match self.kind {
+            SectionKind::Session => &[],
+            SectionKind::Snapshot => &self.statements,
+        }
+    }
 }
 
 /// Why the input isn't read.
@@ -75,7 +101,7 @@ fn read_statements<'a>(
         match kind {
             LineKind::Skipped => {}
             LineKind::Statement(text) => statements.push(text)?,
-            LineKind::Setup | LineKind::Session(_) | LineKind::NoText => {
+            LineKind::Setup | LineKind::Section(..) | LineKind::NoText => {
                 return Ok((statements, rest));
             }
         }
@@ -95,7 +121,7 @@ pub(crate) fn behind_skipped(bytes: &[u8]) -> UnreadInput<'_>
         let (kind, behind) = next_line(rest);
         match kind {
             LineKind::Skipped => rest = behind,
-            LineKind::Setup | LineKind::Session(_) | LineKind::Statement(_) | LineKind::NoText =>
+            LineKind::Setup | LineKind::Section(..) | LineKind::Statement(_) | LineKind::NoText =>
                 return rest,
         }
     }
@@ -127,36 +153,36 @@ pub(crate) fn read_setup<'a>(
     Ok((Vec::new(alloc), rest))
 }
 
-/// The name that a line gives to a session, where it is new; it is then among the names.
-fn new_name<'a>(
+/// The kind and the name of the section that a line begins, where the name is new; it is then among the names.
+fn new_head<'a>(
     names: &mut BTreeSet<&'a str>,
-    kind: LineKind<'a>,
-) -> Result<Option<&'a str>, Memory>
-    ensures name { IfOk result
-        (λ found. option_map (λ n. n.now) found ≡ spec.new_name names.old (kind_view kind.entry)) }
+    line: LineKind<'a>,
+) -> Result<Option<(SectionKind, &'a str)>, Memory>
+    ensures head { IfOk result
+        (λ found. option_map (λ p. (p.0, p.1.now)) found ≡ spec.new_head names.old (kind_view line.entry)) }
     ensures added { IfOk result (λ found. IfSome found
-        (λ n. (q : List ℕ) → has names.new q ≡ (bytes_eq q n.now || has names.old q))) }
+        (λ p. (q : List ℕ) → has names.new q ≡ (bytes_eq q p.1.now || has names.old q))) }
 {
-    let LineKind::Session(name) = kind else {
+    let LineKind::Section(kind, name) = line else {
         return Ok(None);
     };
     if is_session_name(name.as_bytes()) && add_name(names, name)? {
-        Ok(Some(name))
+        Ok(Some((kind, name)))
     } else {
         Ok(None)
     }
 }
 
-/// The section of a session whose name is new, which the first line has to begin, and what stands behind it.
-pub(crate) fn read_session<'a>(
+/// The section that the first line has to begin, whose name is new, and what stands behind it.
+pub(crate) fn read_section<'a>(
     alloc: Global,
     names: &mut BTreeSet<&'a str>,
     rest: UnreadInput<'a>,
 ) -> Result<(Section<'a>, UnreadInput<'a>), SectionsErr>
     requires some { 0 < length rest.bytes.now }
     requires fits { rest.before + length rest.bytes.now < 2 ^ 63 }
-    ensures name { IfOk result
-        (λ r. first_name names.old (kinds_of rest.entry.bytes.now) ≡ Some r.0.name.now) }
+    ensures head { IfOk result
+        (λ r. first_head names.old (kinds_of rest.entry.bytes.now) ≡ Some (r.0.kind, r.0.name.now)) }
     ensures statements { IfOk result (λ r. map (λ t. t.now) r.0.statements.items
         ≡ statements_of (behind_first (kinds_of rest.entry.bytes.now))) }
     ensures behind { IfOk result
@@ -170,14 +196,21 @@ pub(crate) fn read_session<'a>(
         (λ r. (q : List ℕ) → has names.new q ≡ (bytes_eq q r.0.name.now || has names.old q)) }
     ensures form { (line : ℕ) → result ≡ Err (SectionsErr.Form line)
         → (line ≡ rest.entry.before + 1) × (0 < length (kinds_of rest.entry.bytes.now))
-        × (first_name names.old (kinds_of rest.entry.bytes.now) ≡ None) }
+        × (first_head names.old (kinds_of rest.entry.bytes.now) ≡ None) }
 {
-    let (kind, behind) = next_line(rest);
-    let Some(name) = new_name(names, kind)? else {
+    let (line, behind) = next_line(rest);
+    let Some((kind, name)) = new_head(names, line)? else {
         return Err(SectionsErr::Form {
             line: behind.before,
         });
     };
     let (statements, behind) = read_statements(alloc, behind)?;
-    Ok((Section { name, statements }, behind))
+    Ok((
+        Section {
+            name,
+            kind,
+            statements,
+        },
+        behind,
+    ))
 }

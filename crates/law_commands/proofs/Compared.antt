@@ -9,13 +9,13 @@ use Rattle.spec_verify.specs.declared.place.Verdict.TheVariants.{Yes}
 use Rattle.spec_verify.specs.Bytes.{verdict_of}
 use Rattle.audit_extract.specs.declared.found.ImageComparison.{ImageComparison}
 use Rattle.audit_extract.specs.declared.found.ImageComparison.TheVariants.{Same, Collision}
-use Rattle.cli_audit.specs.declared.status.Status.{Status}
-use Rattle.cli_audit.specs.declared.status.Status.TheVariants.{Done, No, Words, Limit, SourceFault, SinkFault, VaultFault, Missing, Digests, Journal, Form, Memory, NotImage, NoEntry, Receipt, TooFar}
-use Rattle.cli_audit.specs.Extract.{AreCompared, ExtractCause, Extracts, HoldsNoDigests, IsFoundWith, LacksExhibits, finding_status, finding_text}
-use Rattle.cli_audit.specs.Names.{digests_limit, image_limit}
-use Rattle.cli_audit.specs.Transfer.{TellsPart}
-use Rattle.cli_audit.specs.Verify.{AreRefused, SaidOrIdle}
-use Rattle.cli_audit.proofs.ExtractLemmas.{compared_of_accepted, compared_status, compared_text}
+use Rattle.cli_commands.specs.Status.{Status}
+use Rattle.cli_commands.specs.Status.TheVariants.{Done, No, Words, Limit, SourceFault, SinkFault, VaultFault, Missing, Digests, Journal, Form, Memory, NotImage, NoEntry, Receipt, TooFar}
+use Rattle.cli_commands.specs.Extract.{AreCompared, ExtractCause, Extracts, HoldsNoDigests, IsFoundWith, LacksExhibits, finding_status, finding_text}
+use Rattle.cli_commands.specs.Names.{digests_limit, image_limit}
+use Rattle.cli_commands.specs.Transfer.{TellsPart}
+use Rattle.cli_commands.specs.Verify.{AreRefused, SaidOrIdle}
+use Rattle.cli_commands.proofs.ExtractLemmas.{compared_of_accepted, compared_status, compared_text}
 use Rattle.law_commands.specs.Calls.{Faults, EndsExtract, SaysSameOrCollision, SaysWhatIsFound, comparison_text}
 use Rattle.law_commands.specs.Exhibits.{HoldsImage, IsExhibit}
 use Rattle.law_commands.proofs.Judged.{not_refused}

@@ -14,7 +14,7 @@ use Rattle.format_digest.specs.Reading.{IsRead}
 use Rattle.format_digest.specs.Writing.{IsFile, held_form}
 use Rattle.format_journal.specs.Rules.{IsJournal}
 use Rattle.law_digests.specs.Issued.{AreIssued}
-use Rattle.law_kept_images.specs.SessionOutput.{IsMeaning}
+use Rattle.law_headline.specs.SessionOutput.{IsMeaning}
 use Rattle.server_result.specs.declared.ran.RunOutcome.{RunOutcome as Output}
 use Rattle.law_headline.specs.Headline.{Headline}
 use Rattle.law_commands.specs.Runs.{saved_of}

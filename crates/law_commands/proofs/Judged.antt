@@ -8,11 +8,11 @@ use Rattle.format_digest.specs.Reading.{IsRead}
 use Rattle.spec_verify.specs.declared.place.Verdict.{Verdict}
 use Rattle.spec_verify.specs.declared.place.Verdict.TheVariants.{Yes}
 use Rattle.spec_verify.specs.Bytes.{verdict_of}
-use Rattle.cli_audit.specs.declared.status.Status.{Status}
-use Rattle.cli_audit.specs.declared.status.Status.TheVariants.{Done, No, Words, Limit, SourceFault, SinkFault, VaultFault, Missing, Digests, Journal, Form, Memory, NotImage, NoEntry, Receipt, TooFar}
-use Rattle.cli_audit.specs.Names.{digests_limit, image_limit}
-use Rattle.cli_audit.specs.Transfer.{TellsPart}
-use Rattle.cli_audit.specs.Verify.{AreRefused, HoldsNone, IsJudged, LacksEvidence, SaidOrIdle, SaysVerdict, VerifyCause, verdict_text}
+use Rattle.cli_commands.specs.Status.{Status}
+use Rattle.cli_commands.specs.Status.TheVariants.{Done, No, Words, Limit, SourceFault, SinkFault, VaultFault, Missing, Digests, Journal, Form, Memory, NotImage, NoEntry, Receipt, TooFar}
+use Rattle.cli_commands.specs.Names.{digests_limit, image_limit}
+use Rattle.cli_commands.specs.Transfer.{TellsPart}
+use Rattle.cli_commands.specs.Verify.{AreRefused, HoldsNone, IsJudged, LacksEvidence, SaidOrIdle, SaysVerdict, VerifyCause, verdict_text}
 use Rattle.law_commands.specs.Calls.{Faults, EndsVerify, SaysYes}
 use Rattle.law_commands.specs.Exhibits.{IsExhibit}
 use Rattle.law_commands.proofs.Reading.{found_in, not_bad, not_missing, not_too_long, not_unreadable, read_once}

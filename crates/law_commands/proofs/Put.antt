@@ -16,17 +16,17 @@ use Rattle.spec_verify.specs.Bytes.{verdict_of}
 use Rattle.format_digest.specs.Reading.{IsRead}
 use Rattle.format_journal.specs.Journal.{journal_bytes}
 use Rattle.format_journal.specs.Rules.{IsJournal}
-use Rattle.law_kept_images.specs.Held.{held}
-use Rattle.law_kept_images.specs.LastImage.{last_image, last_image_bytes}
+use Rattle.law_headline.specs.Held.{held}
+use Rattle.law_headline.specs.LastImage.{last_image, last_image_bytes}
 use Rattle.server_result.specs.declared.ran.RunOutcome.{RunOutcome as Output}
 use Rattle.law_headline.specs.Headline.{Headline, IsSaved}
-use Rattle.cli_audit.specs.declared.files.File.{File}
-use Rattle.cli_audit.specs.Replay.{SavesReplay, replayed_files, replayed_image}
-use Rattle.cli_audit.specs.Files.{image_file, image_name, journal_file, journal_name}
+use Rattle.cli_commands.specs.File.{File}
+use Rattle.cli_commands.specs.Replay.{SavesReplay, replayed_files, replayed_image}
+use Rattle.cli_commands.specs.Files.{image_file, image_name, journal_file, journal_name}
 use Rattle.cli_commands.specs.Run.{cut_file, digests_file, saved_files}
-use Rattle.cli_audit.specs.Names.{digests_limit, image_limit}
-use Rattle.cli_audit.specs.declared.status.Status.TheVariants.{Done}
-use Rattle.cli_audit.proofs.ReplayLemmas.{image_is_present}
+use Rattle.cli_commands.specs.Names.{digests_limit, image_limit}
+use Rattle.cli_commands.specs.Status.TheVariants.{Done}
+use Rattle.cli_commands.proofs.ReplayLemmas.{image_is_present}
 use Rattle.law_commands.specs.Exhibits.{AreExhibits}
 use Rattle.law_commands.specs.Runs.{saved_of}
 use Rattle.law_commands.proofs.Reading.{found_in}

@@ -5,7 +5,7 @@ use Rattle.base_io.specs.Store.{NameContent, Absent, Bytes, Names}
 use Rattle.sql_types.specs.declared.digest.HeldDigest.{HeldDigest}
 use Rattle.format_digest.specs.declared.digest_err.DigestErr.TheVariants as reading
 use Rattle.format_digest.specs.Reading.{IsRead}
-use Rattle.cli_audit.specs.Names.{IsInVault, IsTooLong}
+use Rattle.cli_commands.specs.Names.{IsInVault, IsTooLong}
 
 pub found_in : (names : Names) (name bytes : List ℕ) (limit : ℕ) (found : List ℕ) → names name ≡ Bytes bytes → IsInVault (names name) limit found → found ≡ bytes
 found_in names name bytes limit found there is = (subst (λ (held : NameContent). IsInVault held limit found) there is).0

@@ -7,11 +7,11 @@ use Rattle.sql_types.specs.declared.digest.HeldDigest.{HeldDigest}
 use Rattle.spec_verify.specs.declared.place.Verdict.TheVariants.{Yes}
 use Rattle.audit_extract.specs.declared.found.ImageComparison.{ImageComparison}
 use Rattle.audit_extract.specs.declared.found.ImageComparison.TheVariants.{Same, Collision}
-use Rattle.cli_audit.specs.declared.status.Status.{Status}
-use Rattle.cli_audit.specs.declared.status.Status.TheVariants.{Done, No, SinkFault, VaultFault, Memory}
-use Rattle.cli_audit.specs.Extract.{AreCompared, ExtractCause, Extracts, hex_line}
-use Rattle.cli_audit.specs.Transfer.{TellsPart}
-use Rattle.cli_audit.specs.Verify.{SaidOrIdle, SaysVerdict, VerifyCause, verdict_text}
+use Rattle.cli_commands.specs.Status.{Status}
+use Rattle.cli_commands.specs.Status.TheVariants.{Done, No, SinkFault, VaultFault, Memory}
+use Rattle.cli_commands.specs.Extract.{AreCompared, ExtractCause, Extracts, hex_line}
+use Rattle.cli_commands.specs.Transfer.{TellsPart}
+use Rattle.cli_commands.specs.Verify.{SaidOrIdle, SaysVerdict, VerifyCause, verdict_text}
 
 -- the faults of a vault rose in a call; those of a sink, or its stalls; and a sink was left as it was
 pub record Faults : Type 1 where

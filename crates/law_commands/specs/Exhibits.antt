@@ -12,12 +12,12 @@ use Rattle.spec_verify.specs.Bytes.{verdict_of}
 use Rattle.format_digest.specs.Reading.{IsRead}
 use Rattle.format_journal.specs.Journal.{journal_bytes}
 use Rattle.format_journal.specs.Rules.{IsJournal}
-use Rattle.law_kept_images.specs.Accepted.{IsOfCut}
-use Rattle.law_kept_images.specs.Held.{held}
-use Rattle.law_kept_images.specs.LastImage.{last_image_bytes}
+use Rattle.law_headline.specs.Accepted.{IsOfCut}
+use Rattle.law_headline.specs.Held.{held}
+use Rattle.law_headline.specs.LastImage.{last_image_bytes}
 use Rattle.server_result.specs.declared.ran.RunOutcome.{RunOutcome as Output}
-use Rattle.cli_audit.specs.Names.{image_limit, digests_limit}
-use Rattle.cli_audit.specs.Files.{image_name, journal_name}
+use Rattle.cli_commands.specs.Names.{image_limit, digests_limit}
+use Rattle.cli_commands.specs.Files.{image_name, journal_name}
 use Rattle.cli_commands.specs.Run.{cut_name, digests_name}
 
 -- an image stands under the name, which `verify` and `extract` may read

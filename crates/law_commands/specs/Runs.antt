@@ -4,8 +4,8 @@ use Rattle.spec_history.specs.Inputs.{InputLine, InputSession, sessions_in}
 use Rattle.spec_history.specs.Transcripts.{Transcript}
 use Rattle.format_lines.specs.Line.{Statement}
 use Rattle.format_lines.specs.Sessions.{sessions_of}
-use Rattle.format_sections.specs.RunSections.{RunSections, Section}
-use Rattle.law_kept_images.specs.LastImage.{last_image_bytes}
+use Rattle.format_sections.specs.RunSections.{RunSections, Section, statements_run}
+use Rattle.law_headline.specs.LastImage.{last_image_bytes}
 use Rattle.server_result.specs.declared.ran.RunOutcome.{RunOutcome as Output}
 use Rattle.law_headline.specs.Before.{InOneOrder, InOrderOfLines}
 use Rattle.law_headline.specs.Headline.{Headline, Saved}
@@ -18,7 +18,7 @@ abbrev pub lines_of : List Statement → List InputLine
 lines_of statements = map (λ s. record { session = s.session; text = s.text }) statements
 
 abbrev pub session_of : Section → InputSession
-session_of s = record { name = s.name; texts = s.statements }
+session_of s = record { name = s.name; texts = statements_run s }
 
 abbrev pub input_of : RunSections → List InputSession
 input_of all_sections =

@@ -5,9 +5,9 @@ ghost use Rattle.base_io.specs.Store.{Names};
 ghost use Rattle.cli_words.specs.Commands.{Settings};
 ghost use Rattle.cli_commands.specs.Answer.{RanAndSaved};
 ghost use Rattle.cli_commands.specs.Input.{line_form, section_form};
-ghost use Rattle.cli_audit.specs.Names.{digests_limit};
+ghost use Rattle.cli_commands.specs.Names.{digests_limit};
 ghost use Rattle.cli_commands.specs.Run.{LinesComeTo, SectionsComeTo};
-ghost use Rattle.cli_audit.specs.declared.status.Status.{Status};
+ghost use Rattle.cli_commands.specs.Status.{Status};
 
 use crate::values::saved_files_keep_the_headline;
 use base_io::Clock;

@@ -14,7 +14,7 @@ use Rattle.format_digest.specs.Writing.{IsFile, held_form}
 use Rattle.format_lines.specs.Line.{Statement}
 use Rattle.format_lines.specs.Lines.{read_input}
 use Rattle.format_lines.specs.Sessions.{sessions_of}
-use Rattle.format_sections.specs.RunSections.{RunSections, Section, read_run_sections}
+use Rattle.format_sections.specs.RunSections.{RunSections, Section, read_run_sections, statements_run}
 use Rattle.law_digests.specs.Size.{input_limit}
 
 -- ---- inputs
@@ -28,7 +28,7 @@ sessions_of_lines statements = sessions_in (map line_of statements) (sessions_of
 
 -- and those of these sections, with the setup first
 abbrev pub session_of : Section → InputSession
-session_of s = record { name = s.name; texts = s.statements }
+session_of s = record { name = s.name; texts = statements_run s }
 
 abbrev pub sessions_of_sections : RunSections → List InputSession
 sessions_of_sections all_sections =

@@ -9,8 +9,8 @@ ghost use Rattle.law_digests.specs.Issued.{input_bytes, sessions_of_lines, sessi
 use format_lines::sessions_law;
 use format_sections::statements_law;
 
-/// The statements that an input says, each with a line feed behind it, have no more bytes together than the
-/// input and a line feed behind its last line.
+/// The statements that the sessions of an input run, each with a line feed behind it, have no more bytes together
+/// than the input and a line feed behind its last line.
 pub fn statements_are_within_their_input()
     ensures lines { (bytes : List ℕ) (statements : List Statement) → read_input bytes ≡ Ok statements
         → input_bytes (sessions_of_lines statements) ≤ length bytes + 1 }

@@ -96,7 +96,7 @@ pub fn warn(rt: &impl Eprint, words: &[String], watch: SectionWatch) -> io::Resu
     }
     for line in watch.lines() {
         eprintln!(rt;
-            "ledgerd: line {line} is a comment: sections begin with `-- setup` or `-- session NAME`"
+            "ledgerd: line {line} is a comment: sections begin with `-- setup`, `-- session NAME` or `-- snapshot NAME`"
         )?;
     }
     let more = watch.count().saturating_sub(watch.lines().len());

@@ -39,12 +39,14 @@ use Rattle.server_engine.specs.CoreInput.{CoreInput, nothing_asked, with_session
 use Rattle.server_engine.specs.FirstCells.{first_kept}
 use Rattle.server_engine.specs.Parts.{HasLeft}
 use Rattle.server_engine.specs.Standing.{entry_texts, cells_seen, seats_seen, pending_at, pending_found, Pairwise, Shows, SitsOrIsOver, IsInactive, IsTimed, OnServer, Holds, Stands, IsEnded}
+use Rattle.server_engine.specs.Written.{texts_shown}
 use Rattle.server_engine.specs.declared.one_thread.Core.{Core}
 use Rattle.server_engine.specs.declared.parts.Parts.{Parts}
 use Rattle.server_engine.specs.declared.session.Session.{Session}
 use Rattle.server_engine.proofs.AnonymousActs.{one_session}
 use Rattle.server_engine.proofs.FirstCells.{first_keep, first_same}
 use Rattle.server_engine.proofs.Holding as holding
+use Rattle.server_engine.proofs.Holding.{shown_entries}
 use Rattle.server_engine.proofs.Midways.{found_is}
 use Rattle.server_engine.proofs.OneServer as one
 use Rattle.server_engine.proofs.OneServer.{not_over, quiet_state}
@@ -77,7 +79,7 @@ begins {H} digest h database size least most c hasher cells_are sessions_are = r
 -- ---- a session more
 
 module _ {H : Type 0} (digest : H → List ℕ → List ℕ) (h : H) (a : CoreInput) (c : Core H) (m : Stands digest h c a) (name : Text) (y : Session H)
-    (its_begin : (v : Server) (s : SeatState) → s.present ≡ true → s.role ≡ idle → Begins digest h v name s y.seat) (between : IsBetween y.seat) (same : y.seat.name ≡ name) (no_text : y.entries ≡ []) (no_images : y.images ≡ []) where
+    (its_begin : (v : Server) (s : SeatState) → s.present ≡ true → s.role ≡ idle → Begins digest h v name s y.seat) (between : IsBetween y.seat) (same : y.seat.name ≡ name) (no_text : y.entries ≡ []) (no_last : y.last ≡ None) (no_images : y.images ≡ []) where
   -- it has no transaction
   none_runs : (s : SeatState) (w : Sits digest h y.seat (sits s (new_session name s))) → y.seat.running ≡ None
   none_runs s w = by y.seat.running w.x.open_one w.runs (ap (λ (x : LawSession). x.open_one) (sym (one_session (session (new_session name s)) (new_session name s) w.x refl w.role)))
@@ -109,7 +111,7 @@ module _ {H : Type 0} (digest : H → List ℕ → List ℕ) (h : H) (a : CoreIn
   holds_more idle_seat = record {
     told = m.holds.told ++ told_nothing name ∷ [];
     names = seen_last (λ (k : SessionOutput). k.transcript.session) m.holds.told (told_nothing name) ∙ ap (λ (ns : List Text). ns ++ name ∷ []) m.holds.names;
-    shown = both_last Shows c.sessions.items m.holds.told m.holds.shown y (told_nothing name) (record { name = same; entries = no_text; images = no_images });
+    shown = both_last Shows c.sessions.items m.holds.told m.holds.shown y (told_nothing name) (record { name = same; entries = shown_entries y no_last ∙ no_text; images = no_images; none_last = λ runs. no_last });
     keep = m.holds.keep;
     timed = subst (Each (IsTimed a.moments)) (sym seats_more) (each_last (IsTimed a.moments) (seats_seen c.sessions.items) m.holds.timed y.seat (inr (inl idle_seat)));
     served = λ v serves. subst (λ (seats : List (Seat H)). OnServer digest h v (with_session name a) (m.holds.told ++ told_nothing name ∷ []) (cells_seen c.cells.items) seats) (sym seats_more) (on_server v (m.holds.served v serves));
@@ -174,14 +176,15 @@ module _ {H : Type 0} (digest : H → List ℕ → List ℕ) (h : H) (a : CoreIn
         one_ledger : (x y : LedgerCell) → Ledger x ≡ Ledger y → x ≡ y
         one_ledger x y e = cc
 
-    pub has_left : (v : Server) → Serves (digest h) statement_of v → (p : Parts H) → p.journal.version ≡ JOURNAL_VERSION → p.journal.database ≡ l.database → p.journal.items ≡ l.items → p.digests ≡ l.issued → p.sessions.items ≡ c.sessions.items
+    pub has_left : (v : Server) → Serves (digest h) statement_of v → (p : Parts H) → p.journal.version ≡ JOURNAL_VERSION → p.journal.database ≡ l.database → p.journal.items ≡ l.items → p.digests ≡ l.issued
+        → map (λ y. y.entries) p.sessions.items ≡ map texts_shown c.sessions.items → map (λ y. y.images) p.sessions.items ≡ map (λ y. y.images) c.sessions.items
         → p.image ≡ image_bytes (image_of (digest h) statement_of a.database l.items) → FitsImageFormat (digest h) statement_of a.database l.items → HasLeft (digest h) a p
-    has_left some_v some_serves p version database items issued sessions_are image room = record {
+    has_left some_v some_serves p version database items issued texts_are kept_are image room = record {
       image = image ∙ ap (λ (J : List JournalItem). image_bytes (image_of (digest h) statement_of a.database J)) (sym items);
       room = subst (λ (J : List JournalItem). FitsImageFormat (digest h) statement_of a.database J) (sym items) room;
       transcripts = map (λ k. k.transcript) told;
-      texts = ap (λ (ys : List (Session H)). map (λ y. y.entries) ys) sessions_are
-          ∙ same_seen Shows (λ (y : Session H). y.entries) (λ (k : SessionOutput). entry_texts k.transcript) (λ y k s. s.entries) c.sessions.items told m.holds.shown
+      texts = texts_are
+          ∙ same_seen Shows (λ (y : Session H). texts_shown y) (λ (k : SessionOutput). entry_texts k.transcript) (λ y k s. s.entries) c.sessions.items told m.holds.shown
           ∙ sym (map_twice (λ (k : SessionOutput). k.transcript) entry_texts told);
       names = map_twice (λ (k : SessionOutput). k.transcript) (λ (x : Transcript). x.session) told ∙ m.holds.names;
       version = version;
@@ -191,7 +194,7 @@ module _ {H : Type 0} (digest : H → List ℕ → List ℕ) (h : H) (a : CoreIn
     }
       where
         images_are : map (λ (y : Session H). y.images) p.sessions.items ≡ map (λ k. k.images) told
-        images_are = ap (λ (ys : List (Session H)). map (λ y. y.images) ys) sessions_are
+        images_are = kept_are
             ∙ same_seen Shows (λ (y : Session H). y.images) (λ (k : SessionOutput). k.images) (λ y k s. s.images) c.sessions.items told m.holds.shown
 
 -- ---- its ledger

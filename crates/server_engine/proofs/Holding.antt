@@ -3,8 +3,9 @@ use Rattle.std.proofs.Common.{◌≡◌, ◌<◌, ◌≤◌, ℕ, List, [], ◌�
 use Rattle.std.proofs.lemmas.List.{length-map}
 use mathlib.Core.Option.{some, some-injective}
 use lib.ListN.{get_elem?}
+use Rattle.spec_history.specs.EndSeen.{line_seen}
 use Rattle.spec_history.specs.Lists.{Text, Each, In}
-use Rattle.spec_history.specs.Transcripts.{Entry}
+use Rattle.spec_history.specs.Transcripts.{Entry, EndLine as TranscriptEnd}
 use Rattle.spec_syntax.specs.Text.{statement_of}
 use Rattle.spec_protocol.specs.Cells.{Cell, Ledger, AreCells, cell_count, ledger_at}
 use Rattle.spec_protocol.specs.AnonymousActs.{did, alones_acts}
@@ -15,10 +16,11 @@ use Rattle.spec_protocol.specs.Serves.{Serves}
 use Rattle.law_sequential.specs.EndsLast.{Phase, running, ending, InPhase}
 use Rattle.law_sequential.specs.Sessions.{SessionOutput, names_told, told_with}
 use Rattle.format_transcript.specs.TranscriptText.{entry_text}
+use Rattle.sql_types.specs.declared.end_line.EndLine.{EndLine}
 use Rattle.server_visits.specs.Full.{ClosesFull}
 use Rattle.server_session.specs.KeptCell.{KeptCell, Keeps}
 use Rattle.server_session.specs.Needs.{need_of}
-use Rattle.server_session.specs.ControlPoints.{IsOver, KeepsStatement}
+use Rattle.server_session.specs.ControlPoints.{IsLeaving, IsOver, KeepsStatement}
 use Rattle.server_session.specs.Sits.{Sits}
 use Rattle.server_session.specs.Steps.{Among, AmongAll, Visits, VisitsAll, images_kept, StepsAlone, Starts, line_with, entries_at, last_entries, end_of}
 use Rattle.server_session.specs.SessionOutput.{pending_of}
@@ -27,20 +29,29 @@ use Rattle.server_session.specs.declared.seat.Seat.{Seat}
 use Rattle.server_engine.specs.CoreInput.{CoreInput, with_lines}
 use Rattle.server_engine.specs.IsMidway.{OthersInactive}
 use Rattle.server_engine.specs.Standing.{entry_texts, cells_seen, seats_seen, pending_at, Shows, IsTimed, OnServer, Holds}
-use Rattle.server_engine.specs.Written.{AnswersStatement, Gained, LeavesSession}
+use Rattle.server_engine.specs.Written.{AnswersStatement, LeavesSession, texts_shown}
 use Rattle.server_engine.specs.declared.session.Session.{Session}
 use Rattle.server_engine.proofs.AllCells.{among_all, image_goes}
 use Rattle.server_engine.proofs.AnonymousActs.{plain_running}
 use Rattle.server_engine.proofs.OneServer as one
 use Rattle.server_engine.proofs.OneServer.{it_sits}
 use Rattle.server_engine.proofs.Pairs.{Beside, beside, Seen, seen_at, seen_of, seen_set, both_set, each_set, each_there}
-use Rattle.server_engine.proofs.Pending.{one_more_at, fewer_at}
+use Rattle.server_engine.proofs.Pending.{fewer_at, none_more_at, one_more_at}
 use Rattle.server_visits.proofs.Servers.{some_server}
 use Rattle.server_engine.proofs.Texts.{text_more}
 
 -- the session with another seat
 abbrev pub seated : {H : Type 0} → Session H → Seat H → Session H
-seated y z = record { seat = z; entries = y.entries; images = y.images }
+seated y z = record { seat = z; entries = y.entries; last = y.last; images = y.images }
+
+-- without a last line it has shown its entries
+pub shown_entries : {H : Type 0} (y : Session H) → y.last ≡ None → texts_shown y ≡ y.entries
+shown_entries y none = ap (λ (end : Option EndLine). y.entries ++ map (entry_text y.seat.name) (last_entries (line_seen end))) none ∙ append-nil y.entries
+
+-- the same entries and line were shown by whoever has the same name
+pub same_shown : {H : Type 0} (y z : Session H) → z.seat.name ≡ y.seat.name → z.entries ≡ y.entries → z.last ≡ y.last → texts_shown z ≡ texts_shown y
+same_shown y z name entries last = ap₂ (λ (texts more : List Text). texts ++ more) entries
+    (ap₂ (λ (n : Text) (end : Option EndLine). map (entry_text n) (last_entries (line_seen end))) name last)
 
 each_timed : {H : Type 0} (moments more : List ℕ) → (seats : List (Seat H)) → Each (IsTimed moments) seats → Each (IsTimed (moments ++ more)) seats
 each_timed moments more [] e = tt
@@ -99,10 +110,10 @@ module _ {H : Type 0} (digest : H → List ℕ → List ℕ) (h : H) {cells : Li
 
     -- it has shown nothing more
     module _ (b : CoreInput) (then_cells : List KeptCell) (z : Seat H) (names : b.names ≡ a.names) (name : z.name ≡ y.seat.name)
-        (keep : Each (Keeps (digest h)) then_cells) (others : Each (IsTimed b.moments) (seats_seen sessions)) (timed : IsTimed b.moments z) where
+        (keep : Each (Keeps (digest h)) then_cells) (others : Each (IsTimed b.moments) (seats_seen sessions)) (timed : IsTimed b.moments z) (runs : IsOver y.seat → ⊥) where
       with_seat : ((v : Server) → Serves (digest h) statement_of v → OnServer digest h v b o.told (cells_seen then_cells) (slice_set (seats_seen sessions) j z))
           → Holds digest h then_cells (slice_set sessions j (seated y z)) b
-      with_seat served = with_session b its.y then_cells (seated y z) names refl (record { name = name ∙ its.is.name; entries = its.is.entries; images = its.is.images }) keep others timed
+      with_seat served = with_session b its.y then_cells (seated y z) names refl (record { name = name ∙ its.is.name; entries = same_shown y (seated y z) name refl refl ∙ its.is.entries; images = its.is.images; none_last = λ over. its.is.none_last runs }) keep others timed
           (λ v serves. subst (λ (told : List SessionOutput). OnServer digest h v b told (cells_seen then_cells) (slice_set (seats_seen sessions) j z)) (sym (set_same o.told j its.y its.there)) (served v serves))
 
     module _ (quiet : OthersInactive (seats_seen sessions) j) (runs : IsOver y.seat → ⊥) where
@@ -117,33 +128,42 @@ module _ {H : Type 0} (digest : H → List ℕ → List ℕ) (h : H) {cells : Li
       pub start_holds : (z : Seat H) (text : Text) (now : ℕ) → a.phase ≡ running → Starts digest y.seat text z → z.started ≡ now → z.name ≡ y.seat.name
           → Holds digest h cells (slice_set sessions j (seated y z)) (with_lines (line_with y.seat.name text) (now ∷ []) a)
       start_holds z text now phase starts started name = with_seat (with_lines (line_with y.seat.name text) (now ∷ []) a) cells z refl name o.keep (each_timed a.moments (now ∷ []) (seats_seen sessions) o.timed)
-          (inr (inr (subst (λ (time : ℕ). In time (a.moments ++ now ∷ [])) (sym started) (in_last a.moments now))))
+          (inr (inr (subst (λ (time : ℕ). In time (a.moments ++ now ∷ [])) (sym started) (in_last a.moments now)))) runs
           (λ v serves. let st = starts v h (state v serves) serves (sits v serves) in
           one.alone_goes digest h (o.served v serves) j y.seat its_seat quiet its.y its.there z (line_with y.seat.name text) (now ∷ []) st
           (subst (λ (p : Phase). Each (InPhase p) (map did (alones_acts st.steps))) (sym phase) (plain_running (alones_acts st.steps) st.plain)))
 
       -- it goes on alone
       pub quiet_holds : (z : Seat H) → StepsAlone digest y.seat [] z → z.name ≡ y.seat.name → IsTimed a.moments z → Holds digest h cells (slice_set sessions j (seated y z)) a
-      quiet_holds z goes name timed = with_seat a cells z refl name o.keep o.timed timed
+      quiet_holds z goes name timed = with_seat a cells z refl name o.keep o.timed timed runs
           (λ v serves. one.quiet_goes digest h (o.served v serves) j y.seat its_seat quiet its.y its.there z (goes v h (state v serves) serves (sits v serves)))
 
+      -- until it is over its last line isn't there
+      none_last : y.last ≡ None
+      none_last = its.is.none_last runs
+
       -- its transcript gains these entries
-      with_entries : (z : Session H) (entries : List Entry) → z.seat.name ≡ y.seat.name → Gained entries y z → z.images ≡ y.images → Shows z (told_with its.y entries [])
-      with_entries z entries name gained images = record {
+      with_entries : (z : Session H) (entries : List Entry) → z.seat.name ≡ y.seat.name → texts_shown z ≡ y.entries ++ map (entry_text y.seat.name) entries → z.images ≡ y.images → ((IsOver z.seat → ⊥) → z.last ≡ None) → Shows z (told_with its.y entries [])
+      with_entries z entries name gained images none_then = record {
         name = name ∙ its.is.name;
-        entries = gained ∙ ap₂ (λ (texts : List Text) (n : Text). texts ++ map (entry_text n) entries) its.is.entries its.is.name ∙ sym (text_more its.y.transcript.session its.y.transcript.entries entries);
+        entries = gained ∙ ap₂ (λ (texts : List Text) (n : Text). texts ++ map (entry_text n) entries) (sym (shown_entries y none_last) ∙ its.is.entries) its.is.name ∙ sym (text_more its.y.transcript.session its.y.transcript.entries entries);
         images = images ∙ its.is.images ∙ sym (append-nil its.y.images);
+        none_last = none_then;
       }
 
       -- it is answered
       pub answer_holds : (z : Session H) → AnswersStatement digest y z → IsTimed a.moments z.seat → Holds digest h cells (slice_set sessions j z) a
-      answer_holds z w timed = with_session a (told_with its.y (entries_at y.seat) []) cells z refl refl (with_entries z (entries_at y.seat) w.name w.gained w.images) o.keep o.timed timed
+      answer_holds z w timed = with_session a (told_with its.y (entries_at y.seat) []) cells z refl refl (with_entries z (entries_at y.seat) w.name (shown_entries z (w.last ∙ none_last) ∙ w.gained) w.images (λ runs_on. w.last ∙ none_last)) o.keep o.timed timed
           (λ v serves. one.answer_goes digest h (o.served v serves) j y.seat its_seat quiet its.y its.there z.seat (w.answered v h (state v serves) serves (sits v serves)))
 
       -- it is over
       pub over_holds : a.phase ≡ ending → (z : Session H) → LeavesSession digest y z → Holds digest h cells (slice_set sessions j z) a
-      over_holds phase z w = with_session a (told_with its.y (last_entries (end_of y.seat.running)) []) cells z refl refl (with_entries z (last_entries (end_of y.seat.running)) w.name w.gained w.images) o.keep o.timed (inl w.over)
+      over_holds phase z w = with_session a (told_with its.y (last_entries (end_of y.seat.running)) []) cells z refl refl (with_entries z (last_entries (end_of y.seat.running)) w.name shown w.images (λ runs_on. absurd (runs_on w.over))) o.keep o.timed (inl w.over)
           (λ v serves. one.over_goes digest h (o.served v serves) j y.seat its_seat quiet its.y its.there z.seat w.over (w.ends v h (state v serves) serves (sits v serves)) phase)
+        where
+          shown : texts_shown z ≡ y.entries ++ map (entry_text y.seat.name) (last_entries (end_of y.seat.running))
+          shown = ap₂ (λ (texts more : List Text). texts ++ more) w.entries
+              (ap₂ (λ (n : Text) (end : Option TranscriptEnd). map (entry_text n) (last_entries end)) w.name w.last)
 
       -- ---- visits
 
@@ -172,7 +192,7 @@ module _ {H : Type 0} (digest : H → List ℕ → List ℕ) (h : H) {cells : Li
         -- it visits a cell
         pub visit_holds : In y.seat.started a.moments → KeepsStatement y.seat z → Holds digest h cells_then (slice_set sessions j (seated y z)) a
         visit_holds time stays = with_seat a cells_then z refl stays.name (each_set (Keeps (digest h)) cells o.keep i d keeps_then) o.timed
-            (inr (inr (subst (λ (t : ℕ). In t a.moments) (sym stays.started) time)))
+            (inr (inr (subst (λ (t : ℕ). In t a.moments) (sym stays.started) time))) runs
             (λ v serves. subst (λ (cs : List Cell). OnServer digest h v a o.told cs (slice_set (seats_seen sessions) j z)) (sym cells_then_are)
             (one.visit_goes digest h (o.served v serves) j y.seat its_seat quiet its.y its.there serves (sits v serves) c d i needs there_now keeps_now below z visits time))
 
@@ -181,6 +201,12 @@ module _ {H : Type 0} (digest : H → List ℕ → List ℕ) (h : H) {cells : Li
         within_then = let v = some_server (digest h) statement_of in
             let m = one_more_at (cells_seen cells) i c.cell d.cell there_now (one.at_most_full digest h (o.served v.0 v.1) j y.seat its_seat quiet its.y its.there v.1 (sits v.0 v.1) c d i needs there_now keeps_now below z visits) in
             subst (λ (cs : List Cell). pending_at cs ≤ a.size) (sym cells_then_are) (omega (arith, m, below))
+
+        -- at its end no more is pending
+        pub none_more_then : IsLeaving y.seat → pending_at (cells_seen cells_then) ≤ pending_at (cells_seen cells)
+        none_more_then leaves = let v = some_server (digest h) statement_of in
+            let m = none_more_at (cells_seen cells) i c.cell d.cell there_now (one.none_more digest h (o.served v.0 v.1) j y.seat its_seat quiet its.y its.there v.1 (sits v.0 v.1) c d i needs there_now keeps_now below z visits leaves) in
+            subst (λ (cs : List Cell). pending_at cs ≤ pending_at (cells_seen cells)) (sym cells_then_are) m
 
         pub fewer_then : pending_of d.cell < pending_of c.cell → pending_at (cells_seen cells_then) < pending_at (cells_seen cells)
         fewer_then less = subst (λ (cs : List Cell). pending_at cs < pending_at (cells_seen cells)) (sym cells_then_are)
@@ -191,17 +217,18 @@ module _ {H : Type 0} (digest : H → List ℕ → List ℕ) (h : H) {cells : Li
       pub among_all_holds : need_of y.seat ≡ need.All → AmongAll digest y.seat cells
       among_all_holds needs = let v = some_server (digest h) statement_of in among_all digest h cells (o.served v.0 v.1) j y.seat its_seat quiet its.y its.there v.1 (sits v.0 v.1) needs
 
-      with_images : (z : Session H) (kept : Option KeptImage) → z.seat.name ≡ y.seat.name → z.entries ≡ y.entries → z.images ≡ y.images ++ images_kept kept → Shows z (told_with its.y [] (images_kept kept))
-      with_images z kept name same images = record {
+      with_images : (z : Session H) (kept : Option KeptImage) → z.seat.name ≡ y.seat.name → z.entries ≡ y.entries → z.last ≡ y.last → z.images ≡ y.images ++ images_kept kept → Shows z (told_with its.y [] (images_kept kept))
+      with_images z kept name same last images = record {
         name = name ∙ its.is.name;
-        entries = same ∙ its.is.entries ∙ ap (λ (es : List Entry). entry_texts (record { session = its.y.transcript.session; entries = es })) (sym (append-nil its.y.transcript.entries));
+        entries = same_shown y z name same last ∙ its.is.entries ∙ ap (λ (es : List Entry). entry_texts (record { session = its.y.transcript.session; entries = es })) (sym (append-nil its.y.transcript.entries));
         images = images ∙ ap (λ (is : List KeptImage). is ++ images_kept kept) its.is.images;
+        none_last = λ over. last ∙ none_last;
       }
 
       -- it keeps an image
       pub image_holds : pending_at (cells_seen cells) < a.size → (z : Session H) (kept : Option KeptImage) → need_of y.seat ≡ need.All → VisitsAll digest y.seat cells kept z.seat → KeepsStatement y.seat z.seat → In y.seat.started a.moments
-          → z.entries ≡ y.entries → z.images ≡ y.images ++ images_kept kept → Holds digest h cells (slice_set sessions j z) a
-      image_holds below z kept needs visits stays time same images = with_session a (told_with its.y [] (images_kept kept)) cells z refl refl (with_images z kept stays.name same images) o.keep o.timed
+          → z.entries ≡ y.entries → z.last ≡ y.last → z.images ≡ y.images ++ images_kept kept → Holds digest h cells (slice_set sessions j z) a
+      image_holds below z kept needs visits stays time same last images = with_session a (told_with its.y [] (images_kept kept)) cells z refl refl (with_images z kept stays.name same last images) o.keep o.timed
           (inr (inr (subst (λ (t : ℕ). In t a.moments) (sym stays.started) time)))
           (λ v serves. image_goes digest h cells (o.served v serves) j y.seat its_seat quiet its.y its.there serves (sits v serves) below z.seat kept needs visits)
 

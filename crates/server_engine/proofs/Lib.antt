@@ -1,11 +1,14 @@
 pub mod AllCells
 pub mod Calls
+pub mod ClosingPending
 pub mod AnonymousActs
 pub mod Ends
 pub mod FirstCells
 pub mod Holding
 pub mod Midways
+pub mod LastLines
 pub mod OneServer
+pub mod Outside
 pub mod Pairs
 pub mod Pending
 pub mod Texts

@@ -12,7 +12,7 @@ use Rattle.spec_protocol.proofs.Places.{at_set, set_again, set_else, set_here, s
 use Rattle.server_visits.specs.Full.{ClosesFull, ClosesOne}
 use Rattle.server_session.specs.KeptCell.{KeptCell, Keeps}
 use Rattle.server_session.specs.Needs.{need_of, point_need, visits_left}
-use Rattle.server_session.specs.ControlPoints.{IsBetween, IsOver, IsOverAt, KeepsStatement, IsSamePhase}
+use Rattle.server_session.specs.ControlPoints.{IsBetween, IsLeaving, IsOver, IsOverAt, KeepsStatement, IsSamePhase}
 use Rattle.server_session.specs.Steps.{Among, AmongAll, ComesOn, Visits, VisitsAll, images_kept}
 use Rattle.server_session.specs.SessionOutput.{pending_of}
 use Rattle.server_session.specs.declared.need.NextVisit.{NextVisit}
@@ -169,10 +169,10 @@ module _ {H : Type 0} (digest : H → List ℕ → List ℕ) (h : H) (a : CoreIn
 
     module _ (needs : need_of y.seat ≡ need.All) (z : Session H) (kept : Option KeptImage) (visits : VisitsAll digest y.seat c.cells.items kept z.seat) (stays : KeepsStatement y.seat z.seat)
         (cells_are : d.cells.items ≡ c.cells.items) (sessions_are : d.sessions.items ≡ slice_set c.sessions.items j z) where
-      pub image_midway : z.entries ≡ y.entries → z.images ≡ y.images ++ images_kept kept → IsMidway digest h d a j × IsWithin d a
-      image_midway same images = (
+      pub image_midway : z.entries ≡ y.entries → z.last ≡ y.last → z.images ≡ y.images ++ images_kept kept → IsMidway digest h d a j × IsWithin d a
+      image_midway same last images = (
         midway_then digest h a j c d y z c.cells.items there (hasher ∙ m.hasher) cells_are sessions_are m.others
-            (holding.image_holds digest h m.holds j y there m.others its_runs below z kept needs visits stays time same images) (stays_not_over y.seat z.seat stays) (inr (subst (λ (t : ℕ). In t a.moments) (sym stays.started) time)),
+            (holding.image_holds digest h m.holds j y there m.others its_runs below z kept needs visits stays time same last images) (stays_not_over y.seat z.seat stays) (inr (subst (λ (t : ℕ). In t a.moments) (sym stays.started) time)),
         subst (λ (cs : List KeptCell). pending_at (cells_seen cs) ≤ a.size) (sym cells_are) (omega (arith, below)),
       )
         where
@@ -193,6 +193,10 @@ module _ {H : Type 0} (digest : H → List ℕ → List ℕ) (h : H) (a : CoreIn
         (λ (l : visits_left z < visits_left y.seat). inl (subst₂ (λ (p q : ℕ). p < q) (sym left_then) (sym left_now) l))
         (λ e. inr (left_then ∙ ap (λ (u : Seat H). visits_left u) e.0 ∙ sym left_now, holding.fewer_then digest h m.holds j y there m.others its_runs x x_then i needs here below z visits e.1))
         comes
+
+    -- and at its end no more is pending
+    pub visit_adds_none : IsLeaving y.seat → pending_at (cells_seen (slice_set c.cells.items i x_then)) ≤ pending_at (cells_seen c.cells.items)
+    visit_adds_none leaves = holding.none_more_then digest h m.holds j y there m.others its_runs x x_then i needs here below z visits leaves
 
   pub image_less : (z : Session H) → visits_left z.seat < visits_left y.seat → visits_found (get_elem? (slice_set c.sessions.items j z) j) < visits_found (get_elem? c.sessions.items j)
   image_less z l = subst₂ (λ (p q : ℕ). p < q) (sym (ap visits_found (set_here c.sessions.items j z y there))) (sym (ap visits_found there)) l

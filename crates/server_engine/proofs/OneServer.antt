@@ -27,7 +27,7 @@ use Rattle.law_sequential.proofs.SessionsStand.{ShownAt, shown_at}
 use Rattle.server_visits.specs.Full.{ClosesOne}
 use Rattle.server_session.specs.KeptCell.{KeptCell, Keeps}
 use Rattle.server_session.specs.Needs.{need_of}
-use Rattle.server_session.specs.ControlPoints.{IsBetween, IsOver, IsOverAt}
+use Rattle.server_session.specs.ControlPoints.{IsBetween, IsLeaving, IsOver, IsOverAt}
 use Rattle.server_session.specs.Sits.{Sits, IsControlPoint, left_of, place_seen}
 use Rattle.server_session.specs.Steps.{Steps, Answers, Ends, Among, Visits, IsVisit, last_entries, end_of, entries_at}
 use Rattle.server_session.specs.SessionOutput.{size_of, pending_of}
@@ -39,6 +39,7 @@ use Rattle.server_session.proofs.Alone.{between_is}
 use Rattle.server_engine.specs.CoreInput.{CoreInput, with_lines}
 use Rattle.server_engine.specs.Standing.{SitsOrIsOver, IsInactive, OnServer, pending_at, pending_found}
 use Rattle.server_engine.proofs.AnonymousActs.{plain_nameless, plain_phased, visit_phased, nameless, for_digest, one_more_pending, alone_nameless, adds_gains}
+use Rattle.server_engine.proofs.Outside.{leaving_outside, outside_adds_none}
 use Rattle.server_engine.proofs.Pairs.{Beside, beside, behind, both_set}
 
 -- ---- seats
@@ -264,6 +265,11 @@ module _ {H : Type 0} (digest : H → List ℕ → List ℕ) (h : H) {v : Server
           -- one more is pending at most
           pub at_most_full : pending_of d.cell ≤ pending_of c.cell + 1
           at_most_full = one_more_pending its_fit (g.did [])
+
+          -- at its end nothing more
+          pub none_more : IsLeaving y → pending_of d.cell ≤ pending_of c.cell
+          unfolding among
+          none_more leaves = outside_adds_none (g.may []) (g.lines []) (leaving_outside digest h y s w leaves)
 
           pub still_keeps : Keeps (digest h) d
           unfolding among

@@ -26,6 +26,13 @@ module _ (cells : List Cell) (i : ℕ) (c d : Cell) (here : get_elem? cells i �
       (λ ne. let p = elsewhere ne in omega (arith, p))
       (cases_eq i ledger_at)
 
+  -- no more is pending
+  pub none_more_at : pending_of d ≤ pending_of c → pending_at (slice_set cells i d) ≤ pending_at cells
+  none_more_at most = ⊎_elim
+      (λ (e : i ≡ ledger_at). let p = at_ledger e in omega (arith, p.0, p.1, most))
+      (λ ne. let p = elsewhere ne in omega (arith, p))
+      (cases_eq i ledger_at)
+
   -- fewer are pending, which only the ledger's cell has
   pub fewer_at : (catalog : CatalogCell) (ledger : LedgerCell) → AreCells cells catalog ledger → pending_of d < pending_of c → pending_at (slice_set cells i d) < pending_at cells
   fewer_at catalog ledger are less = ⊎_elim

@@ -19,6 +19,7 @@ use Rattle.server_session.specs.Sits.{Sits}
 use Rattle.server_session.specs.SessionOutput.{pending_of}
 use Rattle.server_session.specs.declared.seat.Seat.{Seat}
 use Rattle.server_engine.specs.CoreInput.{CoreInput}
+use Rattle.server_engine.specs.Written.{texts_shown}
 use Rattle.server_engine.specs.declared.one_thread.Core.{Core}
 use Rattle.server_engine.specs.declared.session.Session.{Session}
 
@@ -53,8 +54,10 @@ entry_texts x = map (entry_text x.session) x.entries
 -- its texts are what the session has shown
 pub record Shows {H : Type 0} (y : Session H) (k : SessionOutput) : Type 0 where
   pub name : y.seat.name ≡ k.transcript.session
-  pub entries : y.entries ≡ entry_texts k.transcript
+  pub entries : texts_shown y ≡ entry_texts k.transcript
   pub images : y.images ≡ k.images
+  -- only a session that is over has a line that is no entry yet
+  pub none_last : (IsOver y.seat → ⊥) → y.last ≡ None
 
 -- its session runs, and stands as the run-time seat says, or is over
 abbrev pub SitsOrIsOver : {H : Type 0} → (H → List ℕ → List ℕ) → H → Seat H → SeatState → Type 0

@@ -8,12 +8,12 @@ ghost use Rattle.base_types.specs.SessionName.{is_session_name};
 ghost use Rattle.sql_types.specs.declared.journal.TheConstants.{MAX_BLOCK};
 ghost use Rattle.law_sequential.specs.EndsLast.{running, ending};
 ghost use Rattle.server_engine.specs.CoreInput.{CoreInput, nothing_asked, with_session, with_line, at_end};
-ghost use Rattle.server_engine.specs.IsMidway.{IsAtSessionEnd, IsBelow, IsBetweenThen, IsEnding, IsInStatement, IsOverThen, IsUnchanged, IsWithin, MayAnswer, MayLeave, IsMidway, TookUp, ChangesSession};
+ghost use Rattle.server_engine.specs.IsMidway.{IsAtSessionEnd, IsBelow, IsBetweenThen, IsInStatement, IsOverThen, IsUnchanged, IsWithin, MayAnswer, MayLeave, IsMidway, TookUp, ChangesSession};
 ghost use Rattle.server_engine.specs.Parts.{HasLeft, IsDone};
 ghost use Rattle.server_engine.specs.Standing.{IsEnded, IsOpen, IsStanding, MayTakeStatement, OthersStay, Stands};
 
 use crate::cells::first_cells;
-use crate::parts::Parts;
+use crate::parts::{Parts, write_last_lines};
 use crate::session::{Session, new_session};
 use crate::visits::LEDGER;
 use base_merkle::Hash32;
@@ -22,7 +22,7 @@ use server_visits::{Cell, image_bytes_of};
 use std::alloc::Global;
 
 /// The cells of a database, and sessions that run over them one statement after another. After want of memory
-/// in `step` or `end_session` the session stays where it came to, and nothing more is to be asked of it.
+/// in `step` the session stays where it came to, and nothing more is to be asked of it.
 #[derive(Drop)]
 pub struct Core<H: Hash32> {
     pub(crate) hasher: H,
@@ -125,26 +125,18 @@ impl<H: Hash32> Core<H> {
     }
 
     /// A session ends, and with it the transaction that it has open, of which its transcript tells then.
-    /// Behind it no statement is to be run any more.
-    ///
-    /// Memory is taken for that line of the transcript, and for a block that is full. For want of it the
-    /// session stays at its end, with what its visits released so far.
-    pub fn end_session(&mut self, alloc: Global, session: usize) -> Result<(), Memory>
+    /// Behind it no statement is to be run any more. Takes no memory.
+    pub fn end_session(&mut self, session: usize)
         requires standing { IsStanding H.digest self.old }
         requires open { IsOpen self.old session }
         ensures stands { (h : H) (a : CoreInput) → Stands H.digest h self.old a
-            → OnOk result (Stands H.digest h self.new (at_end a)) }
-        ensures ended { OnOk result (IsEnded self.new session) }
-        ensures stays { (h : H) (a : CoreInput) → Stands H.digest h self.old a
-            → OnErr result (IsMidway H.digest h self.new (at_end a) session × IsWithin self.new (at_end a)) }
-        ensures ending { OnErr result (IsEnding self.new session) }
-        ensures others { OnOk result (OthersStay session self.old self.new) }
-        ensures others_then { OnErr result (OthersStay session self.old self.new) }
+            → Stands H.digest h self.new (at_end a) }
+        ensures ended { IsEnded self.new session }
+        ensures others { OthersStay session self.old self.new }
     {
         self.finish(session);
-        self.visit_needed(alloc, session)?;
-        self.leave(alloc, session)?;
-        Ok(())
+        self.visit_to_end(session);
+        self.leave(session);
     }
 
     // A session comes to its end, behind the last statement.
@@ -158,20 +150,18 @@ impl<H: Hash32> Core<H> {
         self.sessions[session].seat.finish();
     }
 
-    // The last entry of a session is written down, and it is over. For want of memory nothing changes.
-    fn leave(&mut self, alloc: Global, session: usize) -> Result<(), Memory>
+    // A session is over.
+    fn leave(&mut self, session: usize)
         requires { MayLeave H.digest self.old session }
         ensures stands { (h : H) (a : CoreInput) → IsMidway H.digest h self.old a session → IsBelow self.old a
-            → a.phase ≡ ending → OnOk result (Stands H.digest h self.new a) }
-        ensures turned { OnOk result (ChangesSession IsOverThen session self.old self.new) }
-        ensures err { OnErr result (IsUnchanged self.old self.new) }
+            → a.phase ≡ ending → Stands H.digest h self.new a }
+        ensures turned { ChangesSession IsOverThen session self.old self.new }
     {
-        self.sessions[session].leave(alloc)?;
-        Ok(())
+        self.sessions[session].leave();
     }
 
-    /// What it leaves, once all its sessions are over, with the image of its journal. For want of memory all
-    /// that it had is gone.
+    /// What it leaves, once all its sessions are over, with the image of its journal, and with the last line of
+    /// each session among its entries. For want of memory all that it had is gone.
     pub fn into_parts(self, alloc: Global) -> Result<Parts<H>, Memory>
         requires { IsDone H.digest self }
         ensures { (h : H) (a : CoreInput) → Stands H.digest h self a
@@ -179,9 +169,10 @@ impl<H: Hash32> Core<H> {
     {
         let Core {
             mut cells,
-            sessions,
+            mut sessions,
             ..
         } = self;
+        write_last_lines(alloc, &mut sessions)?;
         let image = image_bytes_of(alloc, &cells)?;
         let ledger = cells.swap_remove(LEDGER).into_ledger();
         // Its ids have room in 8 bytes.

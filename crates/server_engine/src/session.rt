@@ -1,6 +1,6 @@
 //! A session of a core.
 
-ghost use Rattle.std.specs.Prelude.{◌≡◌, ◌<◌, OnErr, OnOk, true, []};
+ghost use Rattle.std.specs.Prelude.{◌≡◌, ◌<◌, OnErr, OnOk, true, [], None};
 ghost use Rattle.base_types.specs.SessionName.{is_session_name};
 ghost use Rattle.spec_protocol.specs.Seats.{idle, SeatState};
 ghost use Rattle.spec_protocol.specs.Server.{Server};
@@ -9,12 +9,12 @@ ghost use Rattle.server_session.specs.ControlPoints.{IsAnswering, IsBetween};
 ghost use Rattle.server_session.specs.Rest.{MayEndSession};
 ghost use Rattle.server_session.specs.Steps.{AmongAll, Begins, items_in};
 ghost use Rattle.server_session.specs.declared.need.NextVisit.TheVariants.{Done};
-ghost use Rattle.server_engine.specs.Written.{AnswersStatement, KeepsBehind, KeepsSessionImage, LeavesSession};
+ghost use Rattle.server_engine.specs.Written.{AnswersStatement, KeepsBehind, KeepsSessionImage, LeavesSession, end_with, texts_shown};
 
 use base_merkle::Hash32;
 use base_types::{Blob, Items, Memory, Name, Text};
 use format_transcript::{push_end, push_statement};
-use server_session::{Answer, Seat};
+use server_session::{Answer, EndLine, Seat};
 use server_visits::{Cell, visit_all};
 use std::alloc::Global;
 use std::mem;
@@ -23,6 +23,17 @@ use std::mem;
 #[derive(Drop)]
 pub struct Session<H: Hash32> {
     pub seat: Seat<H>,
+    /// The texts of the entries of its transcript.
+    pub entries: Items<Text>,
+    /// The line of the transaction that the session's end ended, until it is one of the entries.
+    pub last: Option<EndLine>,
+    /// The images that it kept, in this order: the number of the journal's items, and the bytes.
+    pub images: Items<(u64, Blob)>,
+}
+
+/// What is left of a session that is over.
+#[derive(Drop)]
+pub struct SessionEnd {
     /// The texts of the entries of its transcript.
     pub entries: Items<Text>,
     /// The images that it kept, in this order: the number of the journal's items, and the bytes.
@@ -37,11 +48,13 @@ pub fn new_session<H: Hash32>(alloc: Global, hasher: H, name: Name) -> Session<H
     ensures between { IsBetween result.seat }
     ensures name { result.seat.name ≡ name }
     ensures entries { result.entries ≡ [] }
+    ensures last { result.last ≡ None }
     ensures images { result.images ≡ [] }
 {
     Session {
         seat: Seat::new(alloc, hasher, name),
         entries: Items::new(alloc),
+        last: None,
         images: Items::new(alloc),
     }
 }
@@ -63,21 +76,43 @@ impl<H: Hash32> Session<H> {
         Ok(())
     }
 
-    /// The session is over. Only its last line takes memory; where there is none for it nothing changes, and
-    /// the session may still end.
-    pub fn leave(&mut self, alloc: Global) -> Result<(), Memory>
+    /// The session is over. Takes no memory: its last line is kept, and no entry yet.
+    pub fn leave(&mut self)
         requires { MayEndSession self.old.seat }
-        ensures leaves { OnOk result (LeavesSession H.digest self.old self.new) }
+        ensures { LeavesSession H.digest self.old self.new }
+    {
+        self.last = self.seat.last_line();
+        self.seat.end_session();
+    }
+
+    /// Its last line, where it has one that is no entry yet, becomes one. For want of memory nothing changes.
+    pub fn write_last(&mut self, alloc: Global) -> Result<(), Memory>
+        ensures entries { OnOk result (self.new.entries ≡ texts_shown self.old) }
+        ensures last { OnOk result (self.new.last ≡ None) }
+        ensures images { OnOk result (self.new.images ≡ self.old.images) }
         ensures err { OnErr result (self.new ≡ self.old) }
     {
-        if let Some(end) = self.seat.last_line() {
+        if let Some(end) = self.last {
             let name = self.seat.name().as_str();
             let mut entry = String::new(alloc);
             push_end(alloc, name, end, &mut entry)?;
             self.entries.push(Text::from_string(entry))?;
+            self.last = None;
         }
-        self.seat.end_session();
         Ok(())
+    }
+
+    /// What is left of it once its last line is an entry. Takes no memory.
+    pub fn into_end(self) -> SessionEnd
+        ensures { result ≡ end_with self }
+    {
+        let Session {
+            seat: _,
+            entries,
+            last: _,
+            images,
+        } = self;
+        SessionEnd { entries, images }
     }
 
     /// Keeps an image of all cells, if there is memory for one, with the number of the journal's items. Where

@@ -3,7 +3,7 @@
 ghost use Rattle.std.specs.Prelude.{ℕ, ◌≡◌, IfOk, OnErr, OnOk, MatchBool};
 ghost use Rattle.server_session.specs.declared.need.NextVisit.TheVariants as need;
 ghost use Rattle.server_engine.specs.CoreInput.{CoreInput};
-ghost use Rattle.server_engine.specs.IsMidway.{IsBelow, IsUnchanged, IsWithin, LessWork, MayCloseBlock, MayContinue, IsMidway, NeedsVisit, NoMorePending, ChangesSession, WentOn, WentToEnd};
+ghost use Rattle.server_engine.specs.IsMidway.{IsBelow, IsEnding, IsUnchanged, IsWithin, LessWork, MayCloseBlock, MayContinue, IsMidway, NeedsVisit, NoMorePending, ChangesSession, WentOn, WentToEnd};
 
 use crate::one_thread::Core;
 use base_merkle::Hash32;
@@ -33,6 +33,35 @@ impl<H: Hash32> Core<H> {
         Ok(())
     }
 
+    // Makes all visits that a session at its end needs. They take no memory, and make no block full.
+    pub(crate) fn visit_to_end(&mut self, session: usize)
+        requires continues { MayContinue H.digest self.old session }
+        requires ending { IsEnding self.old session }
+        ensures midway { (h : H) (a : CoreInput) → IsMidway H.digest h self.old a session → IsBelow self.old a
+            → IsMidway H.digest h self.new a session × IsBelow self.new a }
+        ensures turned { ChangesSession WentToEnd session self.old self.new }
+    {
+        while self.visit_at_end(session) {}
+    }
+
+    // Makes the next visit that a session at its end needs; false where it needs none.
+    fn visit_at_end(&mut self, session: usize) -> bool
+        requires continues { MayContinue H.digest self.old session }
+        requires ending { IsEnding self.old session }
+        ensures midway { (h : H) (a : CoreInput) → IsMidway H.digest h self.old a session → IsBelow self.old a
+            → IsMidway H.digest h self.new a session × IsBelow self.new a }
+        ensures next { MatchBool result
+            (ChangesSession WentOn session self.old self.new × LessWork session self.old self.new)
+            ((self.new ≡ self.old) × ChangesSession WentToEnd session self.old self.new) }
+    {
+        let NextVisit::Cell(cell) = self.sessions[session].seat.need() else {
+            return false;
+        };
+        let alloc = *self.cells.allocator();
+        self.visit(alloc, session, cell);
+        true
+    }
+
     // Makes the next visit that the session needs; false where it needs none. For want of memory it makes none.
     fn visit_next(&mut self, alloc: Global, session: usize) -> Result<bool, Memory>
         requires { MayContinue H.digest self.old session }
@@ -56,13 +85,14 @@ impl<H: Hash32> Core<H> {
         }
     }
 
-    // Visits the cell that the session needs.
+    // Visits the cell that the session needs. At its end nothing is committed.
     fn visit(&mut self, alloc: Global, session: usize, cell: usize)
         requires { NeedsVisit H.digest self.old session (need.Cell cell) }
         ensures midway { (h : H) (a : CoreInput) → IsMidway H.digest h self.old a session → IsBelow self.old a
             → IsMidway H.digest h self.new a session × IsWithin self.new a }
         ensures turned { ChangesSession WentOn session self.old self.new }
         ensures less { LessWork session self.old self.new }
+        ensures pending { IsEnding self.old session → NoMorePending self.old self.new }
     {
         let seat = &mut self.sessions[session].seat;
         visit(seat, alloc, &mut self.cells[cell]);

@@ -2,18 +2,18 @@
 use Rattle.std.proofs.Common.{◌≡◌, ◌≤◌, ℕ, List, [], ◌∷◌, length, refl, sym, subst}
 use mathlib.Core.Option.{some}
 use lib.ListN.{get_elem?}
-use Rattle.server_engine.specs.FirstCells.{first_kept}
-use Rattle.server_engine.specs.Standing.{cells_seen}
-use Rattle.server_engine.proofs.FirstCells.{first_keep, first_same}
+use Rattle.server_thread.specs.FirstCells.{first_kept}
+use Rattle.server_ending.specs.Standing.{cells_seen}
+use Rattle.server_thread.proofs.FirstCells.{first_keep, first_same}
 use Rattle.spec_history.specs.Lists.{Text}
 use Rattle.spec_model.specs.Limits.{max_block}
 use Rattle.server_session.specs.KeptCell.{KeptCell, Keeps}
 use Rattle.spec_protocol.specs.Cells.{Cell, Ledger, LedgerCell, cell_count, first_cells, first_ledger, ledger_at}
 use Rattle.spec_protocol.specs.AllowedVisit.{first_seat}
 use Rattle.spec_protocol.specs.StandTogether.{Stands, StandTogether}
-use Rattle.server_board.proofs.Beginning.{begins, none_asked, none_requested}
-use Rattle.server_board.specs.Laws.{one_ledger}
-use Rattle.server_board.specs.ServedDatabase.{IsOf, ServedDatabase, StandsOn}
+use Rattle.server_thread.proofs.Beginning.{begins, none_asked, none_requested}
+use Rattle.server_thread.specs.Laws.{one_ledger}
+use Rattle.server_thread.specs.ServedDatabase.{IsOf, ServedDatabase, StandsOn}
 
 module _ (d : ServedDatabase) (database : Text) (size : ℕ) (some_size : 1 ≤ size) (most_size : size ≤ max_block) where
   stands : Stands d.server [] (first_cells database size) (first_seat (first_cells database size) ∷ [])

@@ -11,8 +11,8 @@ use Rattle.base_board.specs.declared.world.World.{Ghosts}
 use Rattle.format_sections.specs.declared.section.Section.{Section}
 use Rattle.spec_protocol.specs.Seats.{idle, kept, split, SeatState}
 use Rattle.server_run.specs.FinishedRun.{AreUnited}
-use Rattle.server_run.specs.Wrote.{HaveWritten}
-use Rattle.server_run.specs.declared.worker.SessionEnd.{SessionEnd}
+use Rattle.server_run.specs.AllWrote.{HaveWritten}
+use Rattle.server_thread.specs.SessionEnd.{SessionEnd}
 use Rattle.server_run.proofs.Together.{have_united}
 
 pub whole_again : (left right sections : List Section) (n : ℕ) → left ≡ take n sections → right ≡ drop n sections → left ++ right ≡ sections

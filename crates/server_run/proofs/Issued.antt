@@ -38,7 +38,7 @@ use Rattle.server_result.specs.Moments.{IsMoment}
 use Rattle.server_result.proofs.Made.{have_moments}
 use Rattle.law_concurrent.specs.CameTo.{last_image_bytes}
 use Rattle.server_run.specs.CameTo.{AreLast, IsLast}
-use Rattle.server_run.specs.Closing.{IssuesLast}
+use Rattle.server_ending.specs.Closing.{IssuesLast}
 
 -- the laws that are used
 pub record Laws : Type 0 where

@@ -1,5 +1,5 @@
 -- What is saved of threads that have ended is that of a run of their plan.
-use Rattle.std.proofs.Common.{◌≡◌, ◌∙◌, ℕ, true, List, [], ◌∷◌, ◌++◌, codes, flat_map, length, map, refl, sym, ap, ap₂, subst, subst₂}
+use Rattle.std.proofs.Common.{◌≡◌, ◌∙◌, ℕ, true, List, [], ◌∷◌, ◌++◌, codes, length, map, refl, sym, ap, ap₂, subst, subst₂}
 use Rattle.std.specs.List.{All, AllByRecursion, IsDistinct}
 use Rattle.std.specs.Str.{bytes_eq}
 use Rattle.base_types.specs.DatabaseName.{is_database_name}
@@ -7,23 +7,21 @@ use Rattle.base_types.specs.SessionName.{is_session_name}
 use Rattle.sql_types.specs.declared.digest.Digest.{Digest}
 use Rattle.sql_types.specs.declared.journal.Journal.{Journal}
 use Rattle.sql_types.specs.declared.journal.JournalItem.{JournalItem}
-use Rattle.spec_model.specs.Journals.{closed, tx_count}
+use Rattle.spec_model.specs.Journals.{closed, cut, serial, tx_count}
 use Rattle.spec_model.specs.LegalJournals.{IsLegalJournal}
 use Rattle.spec_history.specs.Inputs.{InputSession}
 use Rattle.spec_history.specs.Journals.{times}
 use Rattle.spec_history.specs.Lists.{Text, Each}
-use Rattle.spec_history.specs.Transcripts.{Entry}
 use Rattle.spec_history.proofs.Trace.{each_weaker}
 use Rattle.format_image.specs.Image.{image_of, image_of_cut}
-use Rattle.format_image.specs.ImageBytes.{image_bytes}
+use Rattle.format_image.specs.ImageBytes.{image_bytes, IsImage}
 use Rattle.law_image.specs.Room.{FitsImageFormat}
 use Rattle.format_journal.specs.Rules.{IsJournal}
 use Rattle.format_digest.specs.Writing.{HasMoments}
 use Rattle.spec_syntax.specs.Text.{statement_of}
-use Rattle.format_sections.specs.RunSections.{run_sections_view, section_view, session_names}
+use Rattle.format_sections.specs.RunSections.{run_sections_view, section_view, session_names, statements_run}
 use Rattle.format_sections.specs.declared.all_sections.RunSections.{RunSections}
 use Rattle.format_sections.specs.declared.section.Section.{Section}
-use Rattle.format_transcript.specs.TranscriptText.{entry_text, transcript_text}
 use Rattle.spec_protocol.specs.Cells.{Cell, LedgerCell, pending_in}
 use Rattle.spec_protocol.specs.LedgerIsLegal.{LedgerIsLegal}
 use Rattle.spec_protocol.specs.JournalForms.{journal_in}
@@ -31,17 +29,17 @@ use Rattle.spec_protocol.specs.Reordered.{NamesApart}
 use Rattle.spec_protocol.specs.Seats.{KeptImage, Written}
 use Rattle.spec_protocol.specs.StandTogether.{Stands}
 use Rattle.spec_protocol.specs.Serves.{Serves}
-use Rattle.server_engine.proofs.SameNames.{names_apart}
-use Rattle.server_engine.specs.SessionOutput.{IsImageOf}
-use Rattle.server_engine.specs.Wrote.{transcripts_in}
-use Rattle.server_engine.proofs.SessionOutput.{some_meaning}
-use Rattle.server_engine.specs.Images.{CellsStand}
-use Rattle.server_engine.proofs.ImagesOfCells.{bytes_are_the_journals}
-use Rattle.server_board.specs.Laws.{one_ledger}
-use Rattle.server_board.specs.ServedDatabase.{IsOf as IsOfDatabase, ServedDatabase}
+use Rattle.server_ending.proofs.SameNames.{names_apart}
+use Rattle.server_ending.specs.SessionOutput.{IsImageOf}
+use Rattle.server_ending.specs.Wrote.{transcripts_in}
+use Rattle.server_ending.proofs.SessionOutput.{some_meaning}
+use Rattle.server_ending.specs.Images.{CellsStand}
+use Rattle.server_ending.proofs.ImagesOfCells.{bytes_are_the_journals}
+use Rattle.server_thread.specs.Laws.{one_ledger}
+use Rattle.server_thread.specs.ServedDatabase.{IsOf as IsOfDatabase, ServedDatabase}
+use Rattle.server_reader.specs.Answered.{AreAnsweredOver, whole_database}
 use Rattle.server_result.specs.Images.{AreKept, with_each}
 use Rattle.server_result.specs.Moments.{IsMoment}
-use Rattle.server_result.specs.Joined.{joined, joined_each}
 use Rattle.server_result.specs.declared.ran.RunOutcome.{RunOutcome}
 use Rattle.server_result.proofs.Kept.{are_kept}
 use Rattle.server_result.proofs.Made.{have_moments, moment_is}
@@ -52,29 +50,25 @@ use Rattle.law_concurrent.specs.Threads.{HasJoined, session_in}
 use Rattle.spec_verify.specs.declared.place.Verdict.TheVariants.{Yes}
 use Rattle.spec_verify.specs.Bytes.{verdict_of}
 use Rattle.law_concurrent.specs.Held.{held}
-use Rattle.server_engine.specs.Standing.{pending_found}
-use Rattle.server_run.specs.CameTo.{AreLast, IsClosed, IsOf, and_digests, input_of, session_of, transcripts_text}
-use Rattle.server_run.specs.Closing.{IssuesLast, pending_there}
+use Rattle.server_ending.specs.Standing.{pending_found}
+use Rattle.server_run.specs.CameTo.{AllAnswered, AreLast, IsClosed, IsOf, and_digests, input_of, sections_of, session_of, texts_with}
+use Rattle.server_ending.specs.Closing.{IssuesLast, pending_there}
 use Rattle.server_run.specs.FinishedRun.{HasFinished, setup_name}
-use Rattle.server_run.specs.Saved.{HasSaved, with_digests}
-use Rattle.server_run.specs.Seated.{texts_in}
-use Rattle.server_run.specs.Wrote.{AreWritten, IsWritten}
-use Rattle.server_run.specs.declared.whole.FinishedRun.{FinishedRun}
-use Rattle.server_run.specs.declared.worker.SessionEnd.{SessionEnd}
+use Rattle.server_ending.specs.Saved.{HasSaved, with_digests}
+use Rattle.server_thread.specs.Seated.{texts_in}
+use Rattle.server_run.specs.AllWrote.{AreWritten}
+use Rattle.server_thread.specs.Wrote.{IsWritten}
+use Rattle.server_ending.specs.declared.finished.FinishedRun.{FinishedRun}
+use Rattle.server_thread.specs.SessionEnd.{SessionEnd}
 use Rattle.server_run.proofs.Issued.{Laws, accepted_with, all_have_moments, all_in_blocks, are_last}
 use Rattle.server_run.proofs.Named.{setup_named}
+use Rattle.server_run.proofs.Readers.{all_answered, answers_in, none_answered, run_text}
 
 -- ---- what sessions wrote
-
-abbrev shown_of : Written → List Text
-shown_of w = map (entry_text w.transcript.session) w.transcript.entries
 
 module _ (says : ℕ → Type 0) where
   input_is : (name : Text) (texts : List Text) (e : SessionEnd) (w : Written) → IsWritten says name texts e w → session_in w.transcript ≡ record { name = name; texts = texts }
   input_is name texts e w is = ap₂ (λ (n : Text) (ts : List Text). record { name = n; texts = ts }) is.session is.texts
-
-  shown_is : (name : Text) (texts : List Text) (e : SessionEnd) (w : Written) → IsWritten says name texts e w → e.entries ≡ shown_of w
-  shown_is name texts e w is = is.entries ∙ ap (λ (n : Text). map (entry_text n) w.transcript.entries) (sym is.session)
 
   inputs_are : (ps : List Section) (es : List SessionEnd) (ws : List Written) → AreWritten says ps es ws → map session_in (transcripts_in ws) ≡ map session_of (map section_view ps)
   inputs_are [] [] [] a = refl
@@ -82,15 +76,7 @@ module _ (says : ℕ → Type 0) where
   inputs_are [] (e ∷ es) ws a = absurd a
   inputs_are (p ∷ ps) [] ws a = absurd a
   inputs_are (p ∷ ps) (e ∷ es) [] a = absurd a
-  inputs_are (p ∷ ps) (e ∷ es) (w ∷ ws) a = ap₂ (λ (x : InputSession) (xs : List InputSession). x ∷ xs) (input_is p.name.now (texts_in p.statements.items) e w a.0) (inputs_are ps es ws a.1)
-
-  all_shown : (ps : List Section) (es : List SessionEnd) (ws : List Written) → AreWritten says ps es ws → map (λ e. e.entries) es ≡ map shown_of ws
-  all_shown [] [] [] a = refl
-  all_shown [] [] (w ∷ ws) a = absurd a
-  all_shown [] (e ∷ es) ws a = absurd a
-  all_shown (p ∷ ps) [] ws a = absurd a
-  all_shown (p ∷ ps) (e ∷ es) [] a = absurd a
-  all_shown (p ∷ ps) (e ∷ es) (w ∷ ws) a = ap₂ (λ (x : List Text) (xs : List (List Text)). x ∷ xs) (shown_is p.name.now (texts_in p.statements.items) e w a.0) (all_shown ps es ws a.1)
+  inputs_are (p ∷ ps) (e ∷ es) (w ∷ ws) a = ap₂ (λ (x : InputSession) (xs : List InputSession). x ∷ xs) (input_is p.name.now (statements_run (section_view p)) a.0.left w a.0.is) (inputs_are ps es ws a.1)
 
   images_are : (ps : List Section) (es : List SessionEnd) (ws : List Written) → AreWritten says ps es ws → map (λ e. e.images) es ≡ map (λ w. w.images) ws
   images_are [] [] [] a = refl
@@ -98,7 +84,7 @@ module _ (says : ℕ → Type 0) where
   images_are [] (e ∷ es) ws a = absurd a
   images_are (p ∷ ps) [] ws a = absurd a
   images_are (p ∷ ps) (e ∷ es) [] a = absurd a
-  images_are (p ∷ ps) (e ∷ es) (w ∷ ws) a = ap₂ (λ (x : List KeptImage) (xs : List (List KeptImage)). x ∷ xs) a.0.images (images_are ps es ws a.1)
+  images_are (p ∷ ps) (e ∷ es) (w ∷ ws) a = ap₂ (λ (x : List KeptImage) (xs : List (List KeptImage)). x ∷ xs) (a.0.images ∙ a.0.is.images) (images_are ps es ws a.1)
 
   moments_are : (ps : List Section) (es : List SessionEnd) (ws : List Written) → AreWritten says ps es ws → Each (λ w. Each (IsMoment says) w.moments) ws
   moments_are [] [] [] a = tt
@@ -106,20 +92,17 @@ module _ (says : ℕ → Type 0) where
   moments_are [] (e ∷ es) ws a = absurd a
   moments_are (p ∷ ps) [] ws a = absurd a
   moments_are (p ∷ ps) (e ∷ es) [] a = absurd a
-  moments_are (p ∷ ps) (e ∷ es) (w ∷ ws) a = (a.0.moments, moments_are ps es ws a.1)
-
--- ---- the text of all
-
-entries_joined : (name : Text) (es : List Entry) → joined (map (entry_text name) es) ≡ flat_map (entry_text name) es
-entries_joined name [] = refl
-entries_joined name (e ∷ es) = ap (λ (b : List ℕ). entry_text name e ++ b) (entries_joined name es)
-
-all_text : (ws : List Written) → joined_each (map shown_of ws) ≡ transcripts_text (transcripts_in ws)
-unfolding transcripts_text transcript_text
-all_text [] = refl
-all_text (w ∷ ws) = ap₂ (λ (a b : List ℕ). a ++ b) (entries_joined w.transcript.session w.transcript.entries) (all_text ws)
+  moments_are (p ∷ ps) (e ∷ es) (w ∷ ws) a = (a.0.is.moments, moments_are ps es ws a.1)
 
 -- ---- all
+
+-- the laws that images of cuts have a spelling, and that what is answered over them is answered over serial runs
+pub record SnapshotLaws : Type 0 where
+  pub encodable : (h : List ℕ → List ℕ) (j : Journal) (m : ℕ) → IsLegalJournal statement_of j → FitsImageFormat h statement_of j.database j.items
+      → IsImage (image_of_cut h statement_of j.database j.items m)
+  pub serially : (h : List ℕ → List ℕ) (j : Journal) (m : ℕ) (name : Text) (texts entries : List Text) → IsLegalJournal statement_of j
+      → AreAnsweredOver (whole_database (image_of_cut h statement_of j.database j.items m)) name texts entries
+      → AreAnsweredOver (serial statement_of (cut j.items m)) name texts entries
 
 module _ (h : List ℕ → List ℕ) (sized : (bytes : List ℕ) → length (h bytes) ≡ 32) (database : Text) (size : ℕ) (says : ℕ → Type 0) (all_sections : RunSections)
     (d : ServedDatabase) (serves : Serves h statement_of d.server) (of_database : d.database ≡ database) (of_size : d.size ≡ size)
@@ -202,10 +185,11 @@ module _ (h : List ℕ → List ℕ) (sized : (bytes : List ℕ) → length (h b
 
     -- ---- what is saved
 
-    text_is : r.transcript ≡ transcripts_text (transcripts_in all)
-    text_is = saved.transcript
-        ∙ ap₂ (λ (x : List Text) (xs : List (List Text)). joined_each (x ∷ xs)) (shown_is says setup_name (texts_in all_sections.setup.items) f.setup fin.first fin.setup_is) (all_shown says all_sections.sessions.items f.ends.items fin.rest fin.are)
-        ∙ all_text all
+    abbrev answers : List (List Text)
+    answers = [] ∷ answers_in says all_sections.sessions.items f.ends.items fin.rest fin.are
+
+    text_is : r.transcript ≡ texts_with (transcripts_in all) answers
+    text_is = saved.transcript ∙ run_text says (texts_in all_sections.setup.items) f.setup fin.first fin.setup_is all_sections.sessions.items f.ends.items fin.rest fin.are
 
     images_of_all : r.images ≡ with_each (map (λ w. w.images) all)
     images_of_all = saved.images ∙ ap₂ (λ (x : List KeptImage) (xs : List (List KeptImage)). with_each (x ∷ xs)) fin.setup_is.images (images_are says all_sections.sessions.items f.ends.items fin.rest fin.are)
@@ -226,8 +210,22 @@ module _ (h : List ℕ → List ℕ) (sized : (bytes : List ℕ) → length (h b
     journal_room = subst (λ (J : Journal). FitsImageFormat h statement_of J.database J.items) (sym the_journal)
         (subst (λ (k : LedgerCell). FitsImageFormat h statement_of k.database k.items) same_ledger (saved.room cells_stand st.catalog st.ledger st.are_cells))
 
-    pub is_of : together.CameTo h database size (IsMoment says) (input_of (run_sections_view all_sections)) (left_of r) → IsJournal r.journal → IsOf h (left_of r) r
-    is_of came spelled = record {
+    answered : SnapshotLaws → (came : together.CameTo h database size (IsMoment says) (input_of (run_sections_view all_sections)) (left_of r))
+        → AllAnswered r.journal (sections_of (run_sections_view all_sections)) (map (λ w. w.images) all) answers
+    answered laws came =
+        let J = r.journal in
+        let encodable : (m : ℕ) → IsImage (image_of_cut h statement_of J.database J.items m) = λ m. laws.encodable h J m came.legal journal_room in
+        let serially = λ (m : ℕ) (name : Text) (texts entries : List Text). laws.serially h J m name texts entries came.legal in
+        let of_all = subst (λ (name : Text). Each (λ ks. Each (IsImageOf h statement_of name J.items) ks) (map (λ w. w.images) all)) (sym came.of_database) came.are_images in (
+          none_answered says h J encodable serially setup_name (texts_in all_sections.setup.items) fin.first.images,
+          all_answered says h J encodable serially all_sections.sessions.items f.ends.items fin.rest fin.are of_all.1,
+        )
+
+    pub is_of : SnapshotLaws → together.CameTo h database size (IsMoment says) (input_of (run_sections_view all_sections)) (left_of r) → IsJournal r.journal
+        → IsOf h (run_sections_view all_sections) (left_of r) r
+    is_of law came spelled = record {
+      answers = answers;
+      answered = answered law came;
       transcript = text_is;
       images = subst (AreKept (map (λ w. w.images) all)) (sym images_of_all) (are_kept bytes_at (map (λ w. w.images) all) (each_has (map (λ w. w.images) all) came.are_images));
       image = image_is;
@@ -260,9 +258,12 @@ module _ (h : List ℕ → List ℕ) (sized : (bytes : List ℕ) → length (h b
             (accepted_with laws h d.server serves l legal_cell none_there made more after issued (subst (IsLegalJournal statement_of) the_journal came.legal) cell_room);
       }
 
-      pub is_with_digests : (t : RunOutcome) → t ≡ with_digests r (r.digests ++ more) → IsJournal t.journal → IsOf h (and_digests (left_of r) more) t
-      is_with_digests t is spelled = subst (IsOf h (and_digests (left_of r) more)) (sym is)
+      pub is_with_digests : SnapshotLaws → (t : RunOutcome) → t ≡ with_digests r (r.digests ++ more) → IsJournal t.journal
+          → IsOf h (run_sections_view all_sections) (and_digests (left_of r) more) t
+      is_with_digests law t is spelled = subst (IsOf h (run_sections_view all_sections) (and_digests (left_of r) more)) (sym is)
           (record {
+            answers = base.answers;
+            answered = base.answered;
             transcript = base.transcript;
             images = base.images;
             image = base.image;
@@ -276,5 +277,5 @@ module _ (h : List ℕ → List ℕ) (sized : (bytes : List ℕ) → length (h b
                 (subst (Each (λ g. IsMoment says g.made)) saved.digests came.made));
           })
         where
-          base : IsOf h (left_of r) r
-          base = is_of came (subst (λ (u : RunOutcome). IsJournal u.journal) is spelled)
+          base : IsOf h (run_sections_view all_sections) (left_of r) r
+          base = is_of law came (subst (λ (u : RunOutcome). IsJournal u.journal) is spelled)

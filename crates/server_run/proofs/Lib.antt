@@ -1,21 +1,10 @@
-mod Closings
-mod ClosingPending
 mod FirstStand
-mod Going
 mod Halves
 mod Issued
 mod Leaves
-mod Leavings
-mod Ledgers
 mod Named
-mod Over
-mod Ready
-mod Seating
+mod Readers
 mod Sizes
-mod Snapshots
-mod StepsAhead
-mod Telling
 mod Together
-mod Visiting
 mod WholeRun
-pub use Rattle.server_engine.proofs.SessionOutput
+pub use Rattle.server_ending.proofs.SessionOutput

@@ -1,11 +1,13 @@
 -- How many sessions and statements a plan has.
-use Rattle.std.proofs.Common.{◌≡◌, ◌≤◌, ◌<◌, ◌+◌, ◌∙◌, ℕ, zero, suc, true, List, [], ◌∷◌, ◌++◌, get_or, length, map, take, ap, arith}
+use Rattle.std.proofs.Common.{◌≡◌, ◌≤◌, ◌<◌, ◌+◌, ◌^◌, ◌∙◌, ℕ, zero, suc, true, List, [], ◌∷◌, ◌++◌, get_or, length, map, take, ap, arith}
 use Rattle.std.specs.List.{All, fold}
 use Rattle.std.proofs.lemmas.List.{length-map}
 use Rattle.base_types.specs.SessionName.{is_session_name}
 use Rattle.format_sections.specs.RunSections as all_sections
-use Rattle.format_sections.specs.RunSections.{run_sections_view, section_view, session_names, size_of}
+use Rattle.format_sections.specs.RunSections.{run_as, run_sections_view, section_view, session_names, size_of, statements_run}
 use Rattle.format_sections.specs.declared.all_sections.RunSections.{RunSections}
+use Rattle.format_sections.specs.declared.kind.SectionKind.{SectionKind}
+use Rattle.format_sections.specs.declared.kind.SectionKind.TheVariants.{Session, Snapshot}
 use Rattle.format_sections.specs.declared.section.Section.{Section}
 use Rattle.server_result.proofs.Joins.{one_more}
 use Rattle.server_run.specs.FinishedRun.{AreRunnable}
@@ -55,3 +57,11 @@ runnable_by (p ∷ ps) n small within names = (
 
 pub are_runnable : (p : RunSections) → size_of (run_sections_view p) < 2147483648 → All (λ name. is_session_name name ≡ true) (session_names (run_sections_view p)) → AreRunnable p.sessions.items
 are_runnable p few names = let e = size_is p in runnable_by p.sessions.items (size_of (run_sections_view p)) few (omega (arith, e)) names
+
+-- the session of a section runs few statements
+pub few_run : (p : Section) (n : ℕ) → n ≡ length (statements_run (section_view p)) → length p.statements.items < 2 ^ 32 → n < 2 ^ 32
+few_run p n is few = by_kind p.kind is
+  where
+    by_kind : (kind : SectionKind) → n ≡ length (run_as kind (map (λ t. t.now) p.statements.items)) → n < 2 ^ 32
+    by_kind Session same = let e = length-map p.statements.items (λ t. t.now) in omega (arith, same, e, few)
+    by_kind Snapshot same = omega (arith, same)

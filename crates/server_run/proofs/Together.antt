@@ -5,10 +5,13 @@ use Rattle.spec_history.specs.Transcripts.{Transcript}
 use Rattle.spec_history.proofs.Settles.{in_append, in_left, in_right}
 use Rattle.spec_history.proofs.Trace.{each_append, each_weaker}
 use Rattle.format_sections.specs.declared.section.Section.{Section}
+use Rattle.format_sections.specs.RunSections.{section_view, statements_answered, statements_run}
+use Rattle.server_reader.specs.Answered.{AreAnsweredBehind}
 use Rattle.spec_protocol.specs.Seats.{idle, IsAtRest, joined, kept, split, Role, SeatState, Written}
-use Rattle.server_run.specs.Seated.{all_known, known_by, known_in, texts_in}
-use Rattle.server_run.specs.Wrote.{AreWritten, HasWritten, HaveWritten, IsWritten, BeganAfterAll}
-use Rattle.server_run.specs.declared.worker.SessionEnd.{SessionEnd}
+use Rattle.server_thread.specs.Seated.{all_known, known_by, known_in}
+use Rattle.server_run.specs.AllWrote.{AreWritten, HaveWritten, BeganAfterAll}
+use Rattle.server_thread.specs.Wrote.{HasWritten, IsWritten}
+use Rattle.server_thread.specs.SessionEnd.{SessionEnd}
 
 -- ---- what is known
 
@@ -38,13 +41,22 @@ module _ (says : ℕ → Type 0) where
   pub have_none : (s : SeatState) → s.role ≡ idle → HaveWritten says [] [] s s
   have_none s role = record { rests = is_at_rest s role; ws = []; wrote = sym (append-nil s.written); are = tt; knew = tt }
 
-  pub have_one : (p : Section) (texts : List Text) (e : SessionEnd) (s t : SeatState) → texts ≡ texts_in p.statements.items
-      → HasWritten says p.name.now texts e (known_by s) s.written t → HaveWritten says (p ∷ []) (e ∷ []) s t
-  have_one p texts e s t same h = record {
+  pub have_one : (p : Section) (texts : List Text) (left e : SessionEnd) (s t : SeatState) → texts ≡ statements_run (section_view p)
+      → HasWritten says p.name.now texts left (known_by s) s.written t → e.images ≡ left.images
+      → AreAnsweredBehind p.name.now (statements_answered (section_view p)) left.images left.entries e.entries → HaveWritten says (p ∷ []) (e ∷ []) s t
+  have_one p texts left e s t same h images answered = record {
     rests = is_at_rest t h.role;
     ws = h.w ∷ [];
     wrote = h.wrote;
-    are = (subst (λ (ts : List Text). IsWritten says p.name.now ts e h.w) same h.is, tt);
+    are = (
+      record {
+        left = left;
+        is = subst (λ (ts : List Text). IsWritten says p.name.now ts left h.w) same h.is;
+        images = images;
+        answered = answered;
+      },
+      tt,
+    );
     knew = (λ x i. subst (In x) (sym h.earlier) i, tt);
   }
 

@@ -10,13 +10,14 @@ use Rattle.spec_history.proofs.Settles.{in_right}
 use Rattle.spec_history.proofs.Trace.{each_weaker}
 use Rattle.format_sections.specs.declared.section.Section.{Section}
 use Rattle.server_session.specs.KeptCell.{KeptCell, Keeps}
-use Rattle.spec_protocol.specs.Seats.{idle, joined, kept, nobody, split, SeatState, Written}
-use Rattle.server_board.specs.ServedDatabase.{ServedDatabase, StandsOn}
+use Rattle.spec_protocol.specs.Seats.{nobody, SeatState, Written}
+use Rattle.server_thread.specs.ServedDatabase.{ServedDatabase, StandsOn}
 use Rattle.server_run.specs.FinishedRun.{HasFinished, setup_name}
-use Rattle.server_run.specs.Seated.{IsIdle, known_by}
-use Rattle.server_run.specs.Wrote.{AreWritten, HasWritten, HaveWritten, IsWritten, BeganAfterAll}
-use Rattle.server_run.specs.declared.whole.FinishedRun.{FinishedRun}
-use Rattle.server_run.specs.declared.worker.SessionEnd.{SessionEnd}
+use Rattle.server_thread.specs.Seated.{IsIdle, known_by}
+use Rattle.server_run.specs.AllWrote.{AreWritten, HaveWritten, BeganAfterAll}
+use Rattle.server_thread.specs.Wrote.{HasWritten, IsWritten}
+use Rattle.server_ending.specs.declared.finished.FinishedRun.{FinishedRun}
+use Rattle.server_thread.specs.SessionEnd.{SessionEnd}
 use Rattle.server_run.proofs.Together.{idle_knows}
 
 module _ (d : ServedDatabase) (says : ℕ → Type 0) (texts : List Text) (sections : List Section) (f : FinishedRun) (seats : List SeatState) (j : ℕ) (first s t : SeatState) where

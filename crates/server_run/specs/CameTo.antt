@@ -1,9 +1,9 @@
 -- What a run of a plan comes to, and what is written and saved of it.
-use Rattle.std.specs.Prelude.{ℕ, ◌≡◌, ◌+◌, ◌++◌, List, [], ◌∷◌, flat_map, map}
+use Rattle.std.specs.Prelude.{ℕ, ◌≡◌, ◌+◌, ◌++◌, List, [], ◌∷◌, map}
 use Rattle.std.specs.List.{AllByRecursion}
 use Rattle.sql_types.specs.declared.digest.Digest.{Digest}
 use Rattle.sql_types.specs.declared.journal.Journal.{Journal}
-use Rattle.spec_model.specs.Journals.{closed, tx_count}
+use Rattle.spec_model.specs.Journals.{closed, cut, serial, tx_count}
 use Rattle.format_digest.specs.Writing.{HasMoments}
 use Rattle.spec_history.specs.Inputs.{InputSession}
 use Rattle.spec_history.specs.Journals.{blocks}
@@ -16,8 +16,12 @@ use Rattle.spec_verify.specs.declared.place.Verdict.TheVariants.{Yes}
 use Rattle.spec_verify.specs.Bytes.{verdict_of}
 use Rattle.law_concurrent.specs.Held.{held}
 use Rattle.spec_syntax.specs.Text.{statement_of}
-use Rattle.format_sections.specs.RunSections.{RunSections, Section}
+use Rattle.format_sections.specs.RunSections.{RunSections, Section, statements_answered, statements_run}
+use Rattle.format_sections.specs.declared.kind.SectionKind.TheVariants.{Session}
+use Rattle.spec_protocol.specs.Seats.{KeptImage}
+use Rattle.server_reader.specs.Answered.{AreAnsweredOver}
 use Rattle.server_result.specs.Images.{AreKept}
+use Rattle.server_result.specs.Joined.{joined}
 use Rattle.server_result.specs.Moments.{IsMoment}
 use Rattle.server_result.specs.declared.ran.RunOutcome.{RunOutcome}
 use Rattle.law_concurrent.specs.CameTo as together
@@ -27,7 +31,7 @@ use Rattle.server_run.specs.FinishedRun.{setup_name}
 
 -- what an input has of a session
 abbrev pub session_of : Section → InputSession
-session_of s = record { name = s.name; texts = s.statements }
+session_of s = record { name = s.name; texts = statements_run s }
 
 -- the setup first, and then the sessions in their order
 abbrev pub input_of : RunSections → List InputSession
@@ -38,14 +42,39 @@ input_of all_sections = record { name = setup_name; texts = all_sections.setup }
 abbrev pub CameTo : (List ℕ → List ℕ) → Text → ℕ → (ℕ → Type 0) → RunSections → RunResult → Type 0
 CameTo h database size says all_sections left = together.CameTo h database size (IsMoment says) (input_of all_sections) left
 
--- one transcript behind the other
-unfoldable pub transcripts_text : List Transcript → List ℕ
-transcripts_text X = flat_map transcript_text X
+-- ---- what is answered over snapshots
 
--- This is written and saved of it, and it has a spelling: the transcripts, the images that were kept, each
--- once, that of the whole journal, the journal, and the digests.
-pub record IsOf (h : List ℕ → List ℕ) (left : RunResult) (r : RunOutcome) : Type 0 where
-  pub transcript : r.transcript ≡ transcripts_text left.X
+-- the setup as a section, and then the sections
+abbrev pub sections_of : RunSections → List Section
+sections_of all_sections =
+    record { name = setup_name; kind = Session; statements = all_sections.setup } ∷ all_sections.sessions
+
+-- Of a section whose session kept images of these parts of the journal, each of the texts of a snapshot is answered
+-- over the tables to which the first of the parts leads, run by one thread, in their order; where there is none,
+-- nothing is answered. These are the entries.
+abbrev pub IsAnswered : Journal → Section → List KeptImage → List Text → Type 0
+IsAnswered J s [] entries = entries ≡ []
+IsAnswered J s (kept ∷ _) entries =
+    AreAnsweredOver (serial statement_of (cut J.items kept.0)) s.name (statements_answered s) entries
+
+-- so it is of each section
+abbrev pub AllAnswered : Journal → List Section → List (List KeptImage) → List (List Text) → Type 0
+AllAnswered J [] [] [] = Unit {0}
+AllAnswered J (s ∷ sections) (kept ∷ images) (entries ∷ more) =
+    IsAnswered J s kept entries × AllAnswered J sections images more
+AllAnswered J _ _ _ = ⊥
+
+-- one transcript behind the other, each with the entries behind it that were answered over its image
+abbrev pub texts_with : List Transcript → List (List Text) → List ℕ
+texts_with (x ∷ X) (entries ∷ more) = (transcript_text x ++ joined entries) ++ texts_with X more
+texts_with _ _ = []
+
+-- This is written and saved of it, and it has a spelling: the transcripts with what was answered over snapshots, the
+-- images that were kept, each once, that of the whole journal, the journal, and the digests.
+pub record IsOf (h : List ℕ → List ℕ) (all_sections : RunSections) (left : RunResult) (r : RunOutcome) : Type 0 where
+  pub answers : List (List Text)
+  pub answered : AllAnswered left.J (sections_of all_sections) left.kept answers
+  pub transcript : r.transcript ≡ texts_with left.X answers
   pub images : AreKept left.kept r.images
   pub image : r.image ≡ last_image_bytes h left.J
   pub journal : r.journal ≡ left.J

@@ -13,10 +13,11 @@ use Rattle.spec_history.specs.Lists.{Text, Each, In}
 use Rattle.format_sections.specs.declared.section.Section.{Section}
 use Rattle.server_session.specs.KeptCell.{KeptCell, Keeps}
 use Rattle.spec_protocol.specs.Seats.{IsAtRest, joined, nobody, SeatState, Written}
-use Rattle.server_board.specs.ServedDatabase.{ServedDatabase, StandsOn}
-use Rattle.server_run.specs.Wrote.{AreWritten, IsWritten}
-use Rattle.server_run.specs.declared.whole.FinishedRun.{FinishedRun}
-use Rattle.server_run.specs.declared.worker.SessionEnd.{SessionEnd}
+use Rattle.server_thread.specs.ServedDatabase.{ServedDatabase, StandsOn}
+use Rattle.server_run.specs.AllWrote.{AreWritten}
+use Rattle.server_thread.specs.Wrote.{IsWritten}
+use Rattle.server_ending.specs.declared.finished.FinishedRun.{FinishedRun}
+use Rattle.server_thread.specs.SessionEnd.{SessionEnd}
 
 -- a session has its form, and 32 bits can count its statements
 pub record IsRunnable (s : Section) : Type 0 where

@@ -1,10 +1,7 @@
 pub mod Agreed
-pub mod AtBoard
+pub mod AllWrote
 pub mod CameTo
-pub mod Closing
 pub mod FinishedRun
-pub mod Saved
-pub mod Seated
-pub mod Wrote
-pub use Rattle.server_engine.specs.SessionOutput
+pub mod MayRun
+pub use Rattle.server_ending.specs.SessionOutput
 pub use Rattle.law_concurrent.specs.Held

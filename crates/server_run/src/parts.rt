@@ -4,26 +4,53 @@ ghost use Rattle.std.specs.Prelude.{◌≡◌, ◌+◌, ◌++◌, ◌∷◌, ◌
 ghost use Rattle.std.specs.Thread.{IsSend, IsSync};
 ghost use Rattle.base_board.specs.Boards.{seat_state, seat_parts, seat_out, HasSeat};
 ghost use Rattle.spec_protocol.specs.Seats.{IsAtRest};
+ghost use Rattle.format_sections.specs.RunSections.{section_view, statements_answered};
+ghost use Rattle.server_reader.specs.Answered.{AreAnsweredBehind};
 ghost use Rattle.server_result.specs.Moments.{said_with};
-ghost use Rattle.server_run.specs.AtBoard.{IsGivenBack, MayRun};
+ghost use Rattle.server_thread.specs.AtBoard.{IsGivenBack};
+ghost use Rattle.server_run.specs.MayRun.{MayRun};
 ghost use Rattle.server_run.specs.FinishedRun.{AreUnited};
-ghost use Rattle.server_run.specs.Wrote.{HaveWritten};
+ghost use Rattle.server_run.specs.AllWrote.{HaveWritten};
 
-use crate::session::session_job;
-use crate::shared::{Cells, Run, ThreadSeat};
-use crate::worker::{Job, SessionEnd};
 use base_io::{Clock, Gate};
 use base_merkle::Hash32;
 use base_types::Memory;
 use format_sections::Section;
-use server_board::Serving;
+use server_reader::push_answers;
+use server_thread::{Cells, Job, Run, Serving, SessionEnd, ThreadSeat, session_job};
+use std::alloc::Global;
 use std::sync::Wait;
 use std::thread::{Threads, join};
 
 /// What a thread comes to: its seat, and what its sessions left.
 pub(crate) type PartResult<K> = Result<(ThreadSeat<K>, Vec<SessionEnd>), Memory>;
 
-// One session by this thread, which owns the seat.
+// What a session left, and behind its entries those of the texts that are answered over its image.
+fn with_answers(
+    alloc: Global,
+    section: &Section<'_>,
+    left: SessionEnd,
+) -> Result<SessionEnd, Memory>
+    ensures images { IfOk result (λ end. end.images ≡ left.images) }
+    ensures answered { IfOk result (λ end. AreAnsweredBehind section.now.name.now
+        (statements_answered (section_view section.now)) left.images left.entries end.entries) }
+{
+    let SessionEnd {
+        mut entries,
+        images,
+    } = left;
+    push_answers(
+        alloc,
+        section.name,
+        section.statements_answered(),
+        images.as_slice(),
+        &mut entries,
+    )?;
+    Ok(SessionEnd { entries, images })
+}
+
+// One session by this thread, which owns the seat. Where the section is a snapshot's, the seat is free of the session
+// by the time that its texts are answered.
 fn run_one<'a, K: Serving, H: Hash32, C: Clock, G: Gate, R: Wait>(
     run: &Run<'_, K, H, C, G, R>,
     number: u32,
@@ -38,13 +65,14 @@ fn run_one<'a, K: Serving, H: Hash32, C: Clock, G: Gate, R: Wait>(
     let job = Job {
         hasher: run.hasher,
         name: section.name,
-        statements: &section.statements,
+        statements: section.statements_run(),
         moment: run.moment,
         clock: run.clock,
     };
-    let end = session_job(
+    let left = session_job(
         run.rt, run.alloc, run.gate, number, run.board, &mut place, job,
     )?;
+    let end = with_answers(run.alloc, section, left)?;
     let mut ends = Vec::new(run.alloc);
     ends.push(end)?;
     Ok((place, ends))

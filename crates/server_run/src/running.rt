@@ -12,8 +12,6 @@ ghost use Rattle.sql_types.specs.declared.digest.Digest.{Digest};
 ghost use Rattle.sql_types.specs.declared.journal.TheConstants.{MAX_BLOCK};
 ghost use Rattle.server_run.specs.CameTo.{CameTo, IsClosed, IsOf, and_digests};
 
-use crate::closing::close_all;
-use crate::leaving::{left_by, left_closed};
 use crate::whole::run_over;
 use base_io::{Clock, Gate};
 use base_merkle::Hash32;
@@ -23,6 +21,9 @@ use law_concurrent::{
     digests_are_held_where_their_blocks_are_closed, images_of_legal_journals_verify,
     runs_side_by_side_agree,
 };
+use law_snapshots::snapshots_are_of_serial_runs;
+use server_ending::{close_all, left_by, left_closed};
+use server_reader::images_of_cuts_are_encodable;
 use server_result::{RunOutcome, Settings, is_encodable, moment};
 use std::alloc::Global;
 use std::marker::Brand;
@@ -46,9 +47,13 @@ fn statement_count(all_sections: &RunSections<'_>) -> u32
 /// side by side, each in a thread of its own, while a builder closes blocks. What is written and saved of it
 /// agrees with what was answered, however the turns of sessions and builder fall.
 ///
-/// The gate is passed by each session behind each of its statements and at its end, and by the builder behind
-/// each of its visits, one for each statement of the plan and one more; and a thread says there which cell it
-/// is inside of. Want of memory in any thread is answered once all threads have ended.
+/// A snapshot is a session that runs `SAVE IMAGE` alone. Behind its end its thread visits no cell any more: it answers
+/// the texts of the snapshot over the image that was kept, while other sessions go on.
+///
+/// The gate is passed by each session behind each of the statements that it runs and at its end, and by the builder
+/// behind each of its visits, one for each statement and text of the plan and one more; and a thread says there which
+/// cell it is inside of. Want of memory in any thread is answered once all threads have ended; a text of a snapshot for
+/// whose answer there is none is answered E30.
 pub fn run_all<H: Hash32, C: Clock, G: Gate, R: Threads + Wait + Sync>(
     rt: &R,
     alloc: Global,
@@ -67,7 +72,7 @@ pub fn run_all<H: Hash32, C: Clock, G: Gate, R: Threads + Wait + Sync>(
     ensures { IfOk result (λ r. (left : RunResult)
         × CameTo (H.digest hasher) how.entry.database.now how.entry.block_size
         (said_with how.entry.clock (C.says clock.now)) (run_sections_view all_sections.now) left
-        × IsOf (H.digest hasher) left r) }
+        × IsOf (H.digest hasher) (run_sections_view all_sections.now) left r) }
 {
     let visits = statement_count(all_sections) + 1;
     let finished = run_over::<Brand, H, C, G, R>(
@@ -83,6 +88,8 @@ pub fn run_all<H: Hash32, C: Clock, G: Gate, R: Threads + Wait + Sync>(
     let ran = left_by(alloc, finished)?;
     // Laws: they do nothing.
     is_encodable(&ran.journal);
+    images_of_cuts_are_encodable();
+    snapshots_are_of_serial_runs();
     runs_side_by_side_agree();
     Ok(ran)
 }
@@ -109,7 +116,7 @@ pub fn run_and_close<H: Hash32, C: Clock, G: Gate, R: Threads + Wait + Sync>(
         × CameTo (H.digest hasher) how.entry.database.now how.entry.block_size
         (said_with how.entry.clock (C.says clock.now)) (run_sections_view all_sections.now) left
         × IsClosed (H.digest hasher) (said_with how.entry.clock (C.says clock.now)) left more
-        × IsOf (H.digest hasher) (and_digests left more) r) }
+        × IsOf (H.digest hasher) (run_sections_view all_sections.now) (and_digests left more) r) }
 {
     let visits = statement_count(all_sections) + 1;
     let mut finished = run_over::<Brand, H, C, G, R>(
@@ -127,6 +134,8 @@ pub fn run_and_close<H: Hash32, C: Clock, G: Gate, R: Threads + Wait + Sync>(
     let ran = left_closed(alloc, hasher, finished, made)?;
     // Laws: they do nothing.
     is_encodable(&ran.journal);
+    images_of_cuts_are_encodable();
+    snapshots_are_of_serial_runs();
     runs_side_by_side_agree();
     issued_digests_are_of_the_journal();
     digests_are_held_where_their_blocks_are_closed();

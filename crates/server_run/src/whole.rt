@@ -8,35 +8,26 @@ ghost use Rattle.spec_protocol.specs.Serves.{Serves};
 ghost use Rattle.spec_protocol.specs.Seats.{split};
 ghost use Rattle.server_result.specs.Moments.{said_with};
 ghost use Rattle.sql_types.specs.declared.journal.TheConstants.{MAX_BLOCK};
-ghost use Rattle.server_run.specs.AtBoard.{IsFree, IsFreed, IsGivenBack, MayRun};
+ghost use Rattle.server_thread.specs.AtBoard.{IsFree, IsFreed, IsGivenBack};
+ghost use Rattle.server_run.specs.MayRun.{MayRun};
 ghost use Rattle.server_run.specs.FinishedRun.{AreRunnable, HasFinished, setup_name};
-ghost use Rattle.server_run.specs.Seated.{IsIdle, known_by, texts_in};
-ghost use Rattle.server_run.specs.Wrote.{HasWritten, HaveWritten};
+ghost use Rattle.server_thread.specs.Seated.{IsIdle, known_by, texts_in};
+ghost use Rattle.server_thread.specs.Wrote.{HasWritten};
+ghost use Rattle.server_run.specs.AllWrote.{HaveWritten};
 
-use crate::builder::builder_job;
 use crate::parts::{PartResult, run_part};
-use crate::session::session_job;
-use crate::shared::{Cells, Run, ThreadSeat};
-use crate::worker::{Job, SessionEnd};
 use base_io::{Clock, Gate, OpenGate};
 use base_merkle::Hash32;
 use base_types::{Memory, Name};
 use format_sections::{RunSections, Section};
-use server_board::Serving;
-use server_engine::{Cell, first_cells};
+use server_ending::FinishedRun;
 use server_result::Settings;
+use server_thread::{
+    Cells, Job, Run, Serving, SessionEnd, ThreadSeat, builder_job, first_cells, session_job,
+};
 use std::alloc::Global;
 use std::sync::Wait;
 use std::thread::{Threads, join};
-
-/// What is left when all threads have ended.
-#[derive(Drop)]
-pub(crate) struct FinishedRun {
-    pub cells: Vec<Cell>,
-    pub setup: SessionEnd,
-    /// In the order of the plan.
-    pub ends: Vec<SessionEnd>,
-}
 
 // Runs the setup to its end, at a seat of its own, which is taken in again. The gate isn't passed.
 fn run_setup<K: Serving, H: Hash32, C: Clock, G, R: Wait>(

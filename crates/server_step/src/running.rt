@@ -46,7 +46,7 @@ fn run_to_the_end<H: Hash32, C: Clock>(
     let mut core = Core::new(alloc, hasher, database, how.block_size)?;
     open_sessions(alloc, sessions, &mut core)?;
     run_each(alloc, sessions, lines, how.clock, clock, &mut core)?;
-    end_sessions(alloc, sessions.len(), &mut core)?;
+    end_sessions(sessions.len(), &mut core);
     core.into_parts(alloc)
 }
 

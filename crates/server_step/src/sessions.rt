@@ -31,20 +31,15 @@ pub(crate) fn open_sessions<H: Hash32>(
     Ok(())
 }
 
-/// Ends the first so many sessions, in their order.
-pub(crate) fn end_sessions<H: Hash32>(
-    alloc: Global,
-    count: usize,
-    core: &mut Core<H>,
-) -> Result<(), Memory>
+/// Ends the first so many sessions, in their order. Takes no memory.
+pub(crate) fn end_sessions<H: Hash32>(count: usize, core: &mut Core<H>)
     requires standing { IsStanding H.digest core.old }
     requires open { AreOpen core.old count }
     ensures stands { (h : H) (a : CoreInput) → Stands H.digest h core.old a
-        → OnOk result (StandsEnded H.digest h core.new a) }
-    ensures ended { OnOk result (AreEnded core.new count) }
+        → StandsEnded H.digest h core.new a }
+    ensures ended { AreEnded core.new count }
 {
     for session in 0..count {
-        core.end_session(alloc, session)?;
+        core.end_session(session);
     }
-    Ok(())
 }

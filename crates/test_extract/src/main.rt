@@ -9,18 +9,18 @@
 mod comparing;
 mod fault;
 mod files;
+mod hashes;
 mod settling;
-mod weak;
 
 use base_io::{FolderVault, Vault};
-use base_merkle::{Hash32, Sha256Hash};
+use base_merkle::Hash32;
 use comparing::compared;
 use fault::Fault;
 use files::{digests_of, image_of};
+use hashes::NamedHash;
 use settling::settled;
 use std::alloc::Global;
 use std::io;
-use weak::{LengthHash, ZeroHash};
 
 /// The names of a line's three files.
 #[derive(Clone, Copy)]
@@ -79,11 +79,12 @@ fn answer<V: Vault>(alloc: Global, vault: &mut V, line: &str) -> Result<String, 
     let Some((tx, rest)) = parted(line) else {
         return Err(Fault::Form("the line is no case"));
     };
-    match words_of(rest) {
-        Some(("zeros", names)) => found(alloc, ZeroHash, vault, names, tx),
-        Some(("length", names)) => found(alloc, LengthHash, vault, names, tx),
-        Some(("sha256", names)) => found(alloc, Sha256Hash, vault, names, tx),
-        _ => Err(Fault::Form("the line is no case")),
+    let Some((name, names)) = words_of(rest) else {
+        return Err(Fault::Form("the line is no case"));
+    };
+    match NamedHash::named(name) {
+        Some(hash) => found(alloc, hash, vault, names, tx),
+        None => Err(Fault::Form("the line is no case")),
     }
 }
 

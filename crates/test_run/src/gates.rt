@@ -1,4 +1,5 @@
-//! Gates that hold threads at chosen places, each for so many turns at most.
+//! Gates that hold threads at chosen places, each for so many turns at most. They are one type, so that what runs
+//! behind a gate is compiled once.
 
 use base_io::Gate;
 use std::sync::atomic::AtomicU64;
@@ -24,19 +25,19 @@ fn comes_to(count: &AtomicU64, least: u64) -> bool {
 #[derive(Drop)]
 pub struct HoldInsideGate {
     /// The cell inside of which a thread is held.
-    pub cell: u32,
+    cell: u32,
     /// The session whose first answer it waits for.
-    pub session: u32,
+    session: u32,
     /// The cell inside of which that session is held.
-    pub other: u32,
+    other: u32,
     entries: AtomicU64,
     answers: AtomicU64,
     /// How often a thread was held and the answer came.
-    pub met: AtomicU64,
+    met: AtomicU64,
 }
 
 impl HoldInsideGate {
-    pub fn new(cell: u32, session: u32, other: u32) -> HoldInsideGate {
+    fn new(cell: u32, session: u32, other: u32) -> HoldInsideGate {
         HoldInsideGate {
             cell,
             session,
@@ -46,10 +47,8 @@ impl HoldInsideGate {
             met: AtomicU64::new(0),
         }
     }
-}
 
-impl Gate for HoldInsideGate {
-    fn pass(&self, session: u32, _statement: u32) {
+    fn pass(&self, session: u32) {
         if session == self.session {
             self.answers.store(1, SeqCst);
         }
@@ -74,11 +73,11 @@ pub struct HoldBothGate {
     first: AtomicU64,
     second: AtomicU64,
     /// How many of the two have met the other.
-    pub met: AtomicU64,
+    met: AtomicU64,
 }
 
 impl HoldBothGate {
-    pub fn new() -> HoldBothGate {
+    fn new() -> HoldBothGate {
         HoldBothGate {
             first: AtomicU64::new(0),
             second: AtomicU64::new(0),
@@ -92,9 +91,7 @@ impl HoldBothGate {
             self.met.fetch_add(1, SeqCst);
         }
     }
-}
 
-impl Gate for HoldBothGate {
     fn pass(&self, session: u32, statement: u32) {
         if statement == 0 && session == 0 {
             self.meet(&self.first, &self.second);
@@ -103,8 +100,6 @@ impl Gate for HoldBothGate {
             self.meet(&self.second, &self.first);
         }
     }
-
-    fn inside(&self, _cell: u32) {}
 }
 
 /// Holds the builder behind its first visit until the session has answered, and the session there until the
@@ -114,11 +109,11 @@ pub struct HoldBuilderGate {
     answers: AtomicU64,
     visits: AtomicU64,
     /// How often a thread was held and what it waited for came.
-    pub met: AtomicU64,
+    met: AtomicU64,
 }
 
 impl HoldBuilderGate {
-    pub fn new() -> HoldBuilderGate {
+    fn new() -> HoldBuilderGate {
         HoldBuilderGate {
             answers: AtomicU64::new(0),
             visits: AtomicU64::new(0),
@@ -131,9 +126,7 @@ impl HoldBuilderGate {
             self.met.fetch_add(1, SeqCst);
         }
     }
-}
 
-impl Gate for HoldBuilderGate {
     fn pass(&self, session: u32, statement: u32) {
         if session == 0 && statement == 0 {
             self.answers.store(1, SeqCst);
@@ -146,6 +139,57 @@ impl Gate for HoldBuilderGate {
             }
         }
     }
+}
 
-    fn inside(&self, _cell: u32) {}
+/// A gate of a test.
+#[derive(Drop)]
+pub enum TestGate {
+    Open,
+    Inside(HoldInsideGate),
+    Both(HoldBothGate),
+    Builder(HoldBuilderGate),
+}
+
+impl TestGate {
+    /// Holds a thread inside one cell until a session has answered, and that session inside the other.
+    pub fn hold_inside(cell: u32, session: u32, other: u32) -> TestGate {
+        TestGate::Inside(HoldInsideGate::new(cell, session, other))
+    }
+
+    /// Holds two sessions until each has answered.
+    pub fn hold_both() -> TestGate {
+        TestGate::Both(HoldBothGate::new())
+    }
+
+    /// Holds the builder and the one session until each has passed the other.
+    pub fn hold_builder() -> TestGate {
+        TestGate::Builder(HoldBuilderGate::new())
+    }
+
+    /// How often a thread was held and what it waited for came.
+    pub fn met(&self) -> u64 {
+        match self {
+            TestGate::Open => 0,
+            TestGate::Inside(gate) => gate.met.load(SeqCst),
+            TestGate::Both(gate) => gate.met.load(SeqCst),
+            TestGate::Builder(gate) => gate.met.load(SeqCst),
+        }
+    }
+}
+
+impl Gate for TestGate {
+    fn pass(&self, session: u32, statement: u32) {
+        match self {
+            TestGate::Open => (),
+            TestGate::Inside(gate) => gate.pass(session),
+            TestGate::Both(gate) => gate.pass(session, statement),
+            TestGate::Builder(gate) => gate.pass(session, statement),
+        }
+    }
+
+    fn inside(&self, cell: u32) {
+        if let TestGate::Inside(gate) = self {
+            gate.inside(cell);
+        }
+    }
 }

@@ -12,8 +12,8 @@ use workload_run::run_workload;
 
 /// SHA-256 that counts its compressions.
 #[derive(Clone, Copy)]
-struct CountingHash<'a> {
-    count: &'a AtomicU64,
+pub struct CountingHash<'a> {
+    pub count: &'a AtomicU64,
 }
 
 impl<'a> Hash32 for CountingHash<'a> {

@@ -2,14 +2,15 @@
 
 ghost use Rattle.std.specs.Prelude.{◌≤◌};
 
-use crate::gates::{HoldBothGate, HoldBuilderGate, HoldInsideGate};
-use base_io::{FixedClock, Gate, OpenGate};
-use base_merkle::Sha256Hash;
+use crate::gates::TestGate;
+use crate::hashes::CountingHash;
+use base_io::FixedClock;
+use base_types::first_of;
 use format_sections::read_run_sections;
 use server_result::{RunOutcome, Settings};
 use sql_types::JournalItem;
 use std::sync::Wait;
-use std::sync::atomic::Ordering::SeqCst;
+use std::sync::atomic::AtomicU64;
 use std::test::Fail;
 use std::thread::Threads;
 use workload_run::run_all;
@@ -30,11 +31,12 @@ INSERT INTO u VALUES (1, 1)
 EXECUTE sp_generate_database_ledger_digest
 ";
 
-fn run<R: Threads + Wait + AllocGlobal + Sync, G: Gate>(
+/// Runs the sections. It takes the hash that the compressions are counted with, so that both are compiled once.
+fn run<R: Threads + Wait + AllocGlobal + Sync>(
     rt: &R,
     input: &[u8],
     block_size: u32,
-    gate: &G,
+    gate: &TestGate,
 ) -> Result<RunOutcome, Fail>
     requires some { 1 ≤ block_size }
     requires most { block_size ≤ 100000 }
@@ -49,8 +51,10 @@ fn run<R: Threads + Wait + AllocGlobal + Sync, G: Gate>(
         database: "LedgerDB",
     };
     let clock = FixedClock { at: 0 };
+    let count = AtomicU64::new(0);
+    let hash = CountingHash { count: &count };
     Ok(
-        run_all(rt, rt.alloc(), Sha256Hash, how, &all_sections, &clock, gate)
+        run_all(rt, rt.alloc(), hash, how, &all_sections, &clock, gate)
             .ok()
             .ok_or("memory")?,
     )
@@ -60,9 +64,9 @@ fn run<R: Threads + Wait + AllocGlobal + Sync, G: Gate>(
 /// there, so bob commits first.
 #[test]
 fn one_is_answered_while_another_is_inside(rt: HostRuntime) -> Result<(), Fail> {
-    let gate = HoldInsideGate::new(2, 1, 3);
+    let gate = TestGate::hold_inside(2, 1, 3);
     let ran = run(&rt, TWO_TABLES, 100_000, &gate)?;
-    assert_eq!(rt; gate.met.load(SeqCst), 1);
+    assert_eq!(rt; gate.met(), 1);
     let text = ran.transcript.as_str();
     assert!(rt;
         text.contains("bob: INSERT INTO u VALUES (1, 1)\n  1 rows\n  committed 4 at 3\n")
@@ -79,10 +83,62 @@ fn one_is_answered_while_another_is_inside(rt: HostRuntime) -> Result<(), Fail> 
 /// Each session goes on only when the other has answered: one after the other they would not meet.
 #[test]
 fn two_sessions_overlap(rt: HostRuntime) -> Result<(), Fail> {
-    let gate = HoldBothGate::new();
+    let gate = TestGate::hold_both();
     let ran = run(&rt, TWO_TABLES, 100_000, &gate)?;
-    assert_eq!(rt; gate.met.load(SeqCst), 2);
+    assert_eq!(rt; gate.met(), 2);
     assert!(rt; ran.transcript.as_str().contains("  1|1\n  1 rows\n"));
+    Ok(())
+}
+
+/// A snapshot keeps its image before another session's second statement, and answers from that image.
+#[test]
+fn snapshots_answer_from_the_image_they_kept(rt: HostRuntime) -> Result<(), Fail> {
+    let input: &[u8] = b"-- setup
+CREATE TABLE t (id INT PRIMARY KEY, v INT)
+-- session alice
+INSERT INTO t VALUES (1, 1)
+INSERT INTO t VALUES (2, 2)
+-- snapshot board
+SELECT COUNT(*) FROM t
+";
+    let gate = TestGate::hold_both();
+    let ran = run(&rt, input, 100_000, &gate)?;
+    assert_eq!(rt; gate.met(), 2);
+    let text = ran.transcript.as_str();
+    assert!(rt; text.contains("alice: INSERT INTO t VALUES (2, 2)\n  1 rows\n"));
+    assert!(rt;
+        text.contains("board: SELECT COUNT(*) FROM t\n  0\n  1 rows\n")
+            || text.contains("board: SELECT COUNT(*) FROM t\n  1\n  1 rows\n")
+    );
+    Ok(())
+}
+
+/// Beside ten INSERTs a snapshot counts those that are in the part of the journal whose image it kept, behind the
+/// CREATE TABLE.
+#[test]
+fn snapshots_count_the_commits_of_their_image(rt: HostRuntime) -> Result<(), Fail> {
+    let mut input = String::new(rt.alloc());
+    input.push_str("-- setup\nCREATE TABLE t (id INT PRIMARY KEY)\n-- session alice\n")?;
+    for id in 0..10 {
+        write!(input, "INSERT INTO t VALUES ({id})\n")?;
+    }
+    input.push_str("-- snapshot board\nSELECT COUNT(*) FROM t\n")?;
+    let ran = run(&rt, input.as_bytes(), 3, &TestGate::Open)?;
+    let Some((kept, _)) = first_of(ran.images.as_slice()) else {
+        return Err("no image")?;
+    };
+    let items = ran.journal.items.as_slice();
+    let (part, _) = items.split_at(items.len().min(kept.0 as usize));
+    let committed = part
+        .iter()
+        .filter(|item| matches!(item, JournalItem::Tx { .. }))
+        .count();
+    let text = format!(in rt.alloc();
+        "board: SAVE IMAGE\n  image {}\nboard: SELECT COUNT(*) FROM t\n  {}\n  1 rows\n",
+        kept.0,
+        committed.saturating_sub(1)
+    )?;
+    assert!(rt; ran.transcript.as_str().contains(text.as_str()));
     Ok(())
 }
 
@@ -95,9 +151,9 @@ CREATE TABLE t (id INT PRIMARY KEY, v INT)
 INSERT INTO t VALUES (1, 1)
 INSERT INTO t VALUES (2, 2)
 ";
-    let gate = HoldBuilderGate::new();
+    let gate = TestGate::hold_builder();
     let ran = run(&rt, input, 1, &gate)?;
-    assert_eq!(rt; gate.met.load(SeqCst), 2);
+    assert_eq!(rt; gate.met(), 2);
     let items = ran.journal.items.as_slice();
     let closings = items
         .iter()
@@ -119,7 +175,7 @@ fn many_sessions_run_side_by_side(rt: HostRuntime) -> Result<(), Fail> {
         )?;
         input.push_str("EXECUTE sp_generate_database_ledger_digest\n")?;
     }
-    let ran = run(&rt, input.as_bytes(), 3, &OpenGate)?;
+    let ran = run(&rt, input.as_bytes(), 3, &TestGate::Open)?;
     assert_eq!(rt; ran.digests.len(), 64);
     Ok(())
 }

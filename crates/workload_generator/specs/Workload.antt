@@ -3,6 +3,7 @@
 use Rattle.std.specs.Prelude.{ℕ, zero, suc, ◌+◌, ◌*◌, ◌/◌, ◌%◌, ◌==◌, List, [], ◌∷◌, ◌++◌, map, codes, if◌then◌else◌}
 use Rattle.std.specs.Fmt.{decimal}
 use Rattle.format_sections.specs.RunSections.{RunSections, Section}
+use Rattle.format_sections.specs.declared.kind.SectionKind.TheVariants as kind
 
 abbrev pub tables : List ℕ
 tables = 1 ∷ 2 ∷ 3 ∷ 4 ∷ []
@@ -56,7 +57,8 @@ nth_text table n = if n % 11 == 10 then update_text table (n / 11 * 10 + 9)
 
 -- the session of a table, and its statements on so many rows
 abbrev pub section_of : ℕ → ℕ → Section
-section_of rows table = record { name = session_name table; statements = session_texts table rows }
+section_of rows table =
+    record { name = session_name table; kind = kind.Session; statements = session_texts table rows }
 
 -- the setup, and a session for each table
 abbrev pub workload_sections : ℕ → RunSections

@@ -6,7 +6,7 @@ ghost use Rattle.format_sections.specs.RunSections.{run_sections_view, section_v
 
 use crate::texts::{create_text, nth_text, session_name, statement_count};
 use base_types::Memory;
-use format_sections::{RunSections, Section};
+use format_sections::{RunSections, Section, SectionKind};
 use std::alloc::Global;
 
 /// The numbers of the tables, each with a session of its own.
@@ -54,6 +54,7 @@ fn section<'a>(alloc: Global, session: &'a SessionTexts) -> Result<Section<'a>, 
 {
     Ok(Section {
         name: session.name.as_str(),
+        kind: SectionKind::Session,
         statements: borrowed(alloc, &session.statements)?,
     })
 }

@@ -48,7 +48,7 @@ fn run<H: Hash32, R: Threads + Wait + Sync>(
     ensures { IfOk result (λ ran. (left : RunResult) × (more : List SpecDigest)
         × CameTo (H.digest hasher) (codes "LedgerDB") 100 (λ at. at ≡ 0) (workload_sections rows) left
         × IsClosed (H.digest hasher) (λ at. at ≡ 0) left more
-        × IsOf (H.digest hasher) (and_digests left more) ran) }
+        × IsOf (H.digest hasher) (workload_sections rows) (and_digests left more) ran) }
 {
     let texts = Workload::new(alloc, rows)?;
     let all_sections = texts.all_sections(alloc)?;
@@ -148,7 +148,7 @@ pub fn run_and_count<H: Hash32, R: Threads + Wait + Sync>(
     ensures { IfOk result (λ counted. (left : RunResult) × (more : List SpecDigest)
         × CameTo (H.digest hasher) (codes "LedgerDB") 100 (λ at. at ≡ 0) (workload_sections rows) left
         × IsClosed (H.digest hasher) (λ at. at ≡ 0) left more
-        × IsOf (H.digest hasher) (and_digests left more) counted.ran
+        × IsOf (H.digest hasher) (workload_sections rows) (and_digests left more) counted.ran
         × Counts (H.digest hasher) counted.ran counted.report
         × TellsOf (H.digest hasher) left.J (left.G ++ more) counted.report × (counted.report ≡ expected rows)) }
 {

@@ -38,8 +38,8 @@ loop-rest-preserved c =
     let sessions = map section_view c.loop-rest.sessions.items in
     let session = section_view c.in_ok-session.session in
     let pushed = ap (map section_view) c.in_ok-push.ensures.items ∙ map_push section_view c.loop-rest.sessions.items c.in_ok-session.session in (
-      grown (kinds_of c.args.input.now) (kinds_of c.loop-rest.rest.bytes.now) (kinds_of c.in_ok-session.behind.bytes.now) setup sessions (map section_view c.push.new.self.items) session c.loop-rest.names c.read_session.new.names
-          c.loop-rest.invariant.0 c.in_ok-session.ensures.name c.in_ok-session.ensures.statements c.in_ok-session.ensures.behind c.in_ok-session.ensures.added pushed,
+      grown (kinds_of c.args.input.now) (kinds_of c.loop-rest.rest.bytes.now) (kinds_of c.in_ok-session.behind.bytes.now) setup sessions (map section_view c.push.new.self.items) session c.loop-rest.names c.read_section.new.names
+          c.loop-rest.invariant.0 c.in_ok-session.ensures.head c.in_ok-session.ensures.statements c.in_ok-session.ensures.behind c.in_ok-session.ensures.added pushed,
       c.in_ok-session.ensures.before ∙ c.loop-rest.invariant.1,
       omega (arith, c.in_ok-session.ensures.within, c.loop-rest.invariant.2),
       size_more setup sessions (map section_view c.push.new.self.items) c.in_ok-session.session c.loop-rest.rest.before c.in_ok-session.behind.before pushed c.loop-rest.invariant.3 c.in_ok-session.ensures.count,

@@ -2,7 +2,7 @@ use Rattle.std.proofs.Common.{None, Some, refl, ap, ◌∙◌}
 use Rattle.format_lines.specs.Sessions.{sessions_of}
 use Rattle.spec_history.specs.Inputs.{sessions_in}
 use Rattle.law_headline.specs.Before.{InOneOrder, InOrderOfLines}
-use Rattle.cli_audit.specs.declared.status.Status.TheVariants.{Done}
+use Rattle.cli_commands.specs.Status.TheVariants.{Done}
 use Rattle.law_commands.specs.Runs.{input_of, lines_of}
 use Rattle.law_commands.proofs.Compared.{extract_says}
 use Rattle.law_commands.proofs.Judged.{verify_says}

@@ -3,8 +3,8 @@ use Rattle.spec_history.specs.Lists.{Text}
 use Rattle.spec_syntax.specs.Text.{statement_of}
 use Rattle.format_lines.specs.Sessions.{sessions_of}
 use Rattle.spec_history.specs.Inputs.{sessions_in}
-use Rattle.law_kept_images.specs.LastImage.{last_image_bytes}
-use Rattle.law_kept_images.specs.SessionOutput.{RunAgrees}
+use Rattle.law_headline.specs.LastImage.{last_image_bytes}
+use Rattle.law_headline.specs.SessionOutput.{RunAgrees}
 use Rattle.law_headline.specs.Before.{InOneOrder, InOrderOfLines}
 use Rattle.law_commands.specs.Runs.{input_of, lines_of}
 use Rattle.law_commands.proofs.Put.{moved}

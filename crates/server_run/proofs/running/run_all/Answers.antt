@@ -42,4 +42,4 @@ returns g c =
     let joined = joined_so h sized database size says all_sections (record { server = v.0; database = database; size = size }) v.1 refl refl f fin r saved c.requires.database c.requires.names c.requires.apart in
     let left = left_of h sized database size says all_sections (record { server = v.0; database = database; size = size }) v.1 refl refl f fin r in
     let came = came_so c.runs_side_by_side_agree.ensures h database size (IsMoment says) (input_of (run_sections_view all_sections)) left joined in
-    (left, came, is_of h sized database size says all_sections (record { server = v.0; database = database; size = size }) v.1 refl refl f fin r saved came (c.is_encodable.ensures statement_of came.legal))
+    (left, came, is_of h sized database size says all_sections (record { server = v.0; database = database; size = size }) v.1 refl refl f fin r saved (record { encodable = c.images_of_cuts_are_encodable.ensures; serially = c.snapshots_are_of_serial_runs.ensures.each }) came (c.is_encodable.ensures statement_of came.legal))

@@ -6,14 +6,14 @@ use Rattle.format_sections.specs.declared.all_sections.RunSections.{RunSections}
 use Rattle.law_server.proofs.Servers.{some_server}
 use Rattle.server_result.specs.Moments.{IsMoment, said_with}
 use Rattle.law_concurrent.proofs.Said.{came_so}
-use Rattle.server_board.specs.ServedDatabase.{ServedDatabase}
+use Rattle.server_thread.specs.ServedDatabase.{ServedDatabase}
 use Rattle.server_run.specs.CameTo.{input_of}
 use Rattle.server_result.specs.declared.ran.RunOutcome.{RunOutcome}
-use Rattle.server_run.specs.Closing.{HasLedger, StandBeside, StillStand}
+use Rattle.server_ending.specs.Closing.{HasLedger, StandBeside, StillStand}
 use Rattle.server_run.specs.FinishedRun.{HasFinished}
-use Rattle.server_run.specs.Seated.{texts_in}
-use Rattle.server_run.specs.declared.whole.FinishedRun.{FinishedRun}
-use Rattle.server_run.proofs.Closings.{has_ledger}
+use Rattle.server_thread.specs.Seated.{texts_in}
+use Rattle.server_ending.specs.declared.finished.FinishedRun.{FinishedRun}
+use Rattle.server_ending.proofs.Closings.{has_ledger}
 use Rattle.server_run.proofs.Issued.{Laws}
 use Rattle.server_run.proofs.Leaves.{cells_stand, is_closed, is_with_digests, joined_so, left_of}
 use Rattle.server_run.proofs.Sizes.{are_runnable, few_sessions, size_is}
@@ -117,6 +117,6 @@ returns g c =
       i.more,
       came,
       is_closed h sized database size says all_sections d serves refl refl closed fin i.before i.saved laws none made said i.more i.after i.issued came,
-      is_with_digests h sized database size says all_sections d serves refl refl closed fin i.before i.saved laws none made said i.more i.after i.issued came c.in_ok-ran.ran i.is
+      is_with_digests h sized database size says all_sections d serves refl refl closed fin i.before i.saved laws none made said i.more i.after i.issued came (record { encodable = c.images_of_cuts_are_encodable.ensures; serially = c.snapshots_are_of_serial_runs.ensures.each }) c.in_ok-ran.ran i.is
           (c.is_encodable.ensures statement_of (subst (λ (r : RunOutcome). IsLegalJournal statement_of r.journal) (sym i.is) came.legal)),
     )

@@ -5,10 +5,11 @@ use Rattle.server_session.specs.KeptCell.{KeptCell, Keeps}
 use Rattle.spec_protocol.specs.AllowedVisit.{first_seat}
 use Rattle.spec_protocol.specs.Seats.{split, SeatState}
 use Rattle.server_result.specs.Moments.{said_with}
-use Rattle.server_board.specs.ServedDatabase.{StandsOn}
+use Rattle.server_thread.specs.ServedDatabase.{StandsOn}
 use Rattle.server_run.specs.FinishedRun.{setup_name}
-use Rattle.server_run.specs.Seated.{known_by, texts_in}
-use Rattle.server_run.specs.Wrote.{HasWritten, HaveWritten}
+use Rattle.server_thread.specs.Seated.{known_by, texts_in}
+use Rattle.server_thread.specs.Wrote.{HasWritten}
+use Rattle.server_run.specs.AllWrote.{HaveWritten}
 use Rattle.server_run.proofs.FirstStand.{first_stand}
 use Rattle.server_run.proofs.WholeRun.{has_finished}
 use Rattle.server_run.proofs.whole.run_over.Goals as goal

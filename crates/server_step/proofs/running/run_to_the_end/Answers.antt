@@ -48,7 +48,7 @@ into_parts-requires-after_bounds g c κs within =
     let reached = c.in_ok-run_each.ensures.reached h d size (c.in_ok-open_sessions.ensures.stands h d size c.in_ok-core.ensures) in
     let a = asked d size names ss reached.times in
     is_done g.H.Hash32.digest h a c.end_sessions.new.core (length c.args.sessions.now) (sym (length-map c.args.sessions.now (λ (n : Bor (List ℕ)). n.now)))
-    (c.in_ok-end_sessions.ensures.stands h a reached.stands) c.in_ok-end_sessions.ensures.ended
+    (c.end_sessions.ensures.stands h a reached.stands) c.end_sessions.ensures.ended
 
 pub returns : goal.returns
 returns g c =
@@ -62,4 +62,4 @@ returns g c =
     has_run g.H.Hash32.digest h c.args.how.database.now size says ss names c.run_each.new.core c.end_sessions.new.core c.into_parts.result
     d c.in_ok-database.ensures c.requires.sessions c.requires.database
     (sessions_formed c.args.lines.now c.requires.names (c.sessions_law.ensures.of_statements ss))
-    reached (c.in_ok-end_sessions.ensures.stands h (asked d size names ss reached.times) reached.stands) c.into_parts.ensures
+    reached (c.end_sessions.ensures.stands h (asked d size names ss reached.times) reached.stands) c.into_parts.ensures

@@ -19,7 +19,7 @@ end_session-requires-clause-open g c κs within = c.loop-session.invariant.2 c.l
 
 pub loop-session-preserved : goal.loop-session-preserved
 loop-session-preserved g c =
-    let step = c.in_ok-end_session.ensures in
+    let step = c.end_session.ensures in
     let core = c.loop-session.core in
     let then_core = c.end_session.new.self in
     let session = c.loop-session.session in (

@@ -22,5 +22,5 @@ run_and_close-requires-clause-few g c κs within =
 pub returns : goal.returns
 returns g c =
     let h = g.H.Hash32.digest c.args.hasher in
-    subst (λ (p : RunSections). IfOk c.run_and_close.result (λ ran. (left : RunResult) × (more : List Digest) × CameTo h (codes "LedgerDB") 100 (λ at. at ≡ 0) p left × IsClosed h (λ at. at ≡ 0) left more × IsOf h (and_digests left more) ran))
+    subst (λ (p : RunSections). IfOk c.run_and_close.result (λ ran. (left : RunResult) × (more : List Digest) × CameTo h (codes "LedgerDB") 100 (λ at. at ≡ 0) p left × IsClosed h (λ at. at ≡ 0) left more × IsOf h p (and_digests left more) ran))
     (c.in_ok-all_sections.ensures ∙ c.in_ok-texts.ensures) c.run_and_close.ensures

@@ -1,4 +1,4 @@
-use Rattle.std.proofs.Common.{◌≤◌, ◌^◌, ◌∙◌, refl, sym, ap, subst, arith}
+use Rattle.std.proofs.Common.{◌≤◌, ◌^◌, ◌∙◌, sym, ap, subst, arith}
 use mathlib.Core.Option.{some}
 use Rattle.spec_syntax.specs.Text.{statement_of}
 use Rattle.spec_protocol.specs.Cells.{ledger_at}
@@ -40,7 +40,8 @@ returns g c = λ h a m.
     let ids = subst (λ n. n ≤ 2 ^ 63) c.next_id.ensures.id c.next_id.ensures.most in
     let v = some_server (g.H.Hash32.digest h) statement_of in
     has_left g.H.Hash32.digest h a c.args.self m ended l.cell l.hash there ids v.0 v.1 _
-    c.into_parts-journal.ensures.version c.into_parts-journal.ensures.database c.into_parts-journal.ensures.items c.into_parts-journal.ensures.digests refl
+    c.into_parts-journal.ensures.version c.into_parts-journal.ensures.database c.into_parts-journal.ensures.items c.into_parts-journal.ensures.digests
+    c.in_ok-write_last_lines.ensures.entries c.in_ok-write_last_lines.ensures.images
     (image_is g.H.Hash32.digest h a c.args.self m ended l.cell l.hash there ids c.in_ok-image.image
     (subst (λ cells. AreImageBytes cells c.in_ok-image.image) c.deref.ensures.value c.in_ok-image.ensures.bytes))
     (room_is g.H.Hash32.digest h a c.args.self m ended l.cell l.hash there ids

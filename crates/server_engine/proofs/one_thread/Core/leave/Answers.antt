@@ -1,9 +1,8 @@
 use Rattle.std.proofs.Common.{refl, arith}
 use Rattle.server_session.specs.Rest.{MayEndSession}
-use Rattle.server_engine.proofs.Calls.{midway_near, midway_at, when_err}
+use Rattle.server_engine.proofs.Calls.{midway_near, midway_at}
 use Rattle.server_engine.proofs.Pairs.{index_there}
 use Rattle.server_engine.proofs.Turns.{leave_stands}
-use Rattle.server_engine.proofs.Unchanged.{lent_back}
 use Rattle.server_engine.proofs.one_thread.Core.leave.Goals as goal
 
 pub index_mut-requires : goal.index_mut-requires
@@ -27,7 +26,7 @@ returns-clause-stands g c = λ h a m below phase.
     let there = index_there c.args.self.now.sessions.items c.args.session y
     (midway_near c.args.self.now c.args.session g.H.Hash32.digest r.h r.a r.midway) c.index_mut.ensures.value in
     leave_stands g.H.Hash32.digest h a c.args.session c.args.self.now m y there below phase
-    c.leave.new.self c.in_ok-leave.ensures.leaves _ refl refl refl
+    c.leave.new.self c.leave.ensures _ refl refl refl
 
 pub returns-clause-turned : goal.returns-clause-turned
 returns-clause-turned g c =
@@ -37,15 +36,5 @@ returns-clause-turned g c =
       there = index_there c.args.self.now.sessions.items c.args.session c.index_mut.result.now
           (midway_near c.args.self.now c.args.session g.H.Hash32.digest r.h r.a r.midway) c.index_mut.ensures.value;
       are = refl;
-      went = c.in_ok-leave.ensures.leaves.over;
+      went = c.leave.ensures.over;
     }
-
-pub returns-in_err-leave-clause-err : goal.returns-in_err-leave-clause-err
-returns-in_err-leave-clause-err g c =
-    let r = c.requires in
-    let there = index_there c.args.self.now.sessions.items c.args.session c.index_mut.result.now
-    (midway_near c.args.self.now c.args.session g.H.Hash32.digest r.h r.a r.midway) c.index_mut.ensures.value in when_err c.from_residual.result (record {
-      hasher = refl;
-      cells = refl;
-      sessions = lent_back c.args.self.now.sessions.items c.args.session c.index_mut.result.now c.leave.new.self there c.in_err-leave.ensures.err;
-    })

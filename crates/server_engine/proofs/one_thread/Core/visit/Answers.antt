@@ -1,9 +1,9 @@
 use Rattle.std.proofs.Common.{◌≡◌, refl, inr, arith}
 use Rattle.server_session.specs.Needs.{need_of}
 use Rattle.server_session.specs.declared.need.NextVisit.TheVariants as need
-use Rattle.server_engine.proofs.Calls.{midway_near, midway_at, cell_near}
+use Rattle.server_engine.proofs.Calls.{midway_near, midway_at, cell_near, ending_at, ending_leaves}
 use Rattle.server_engine.proofs.Holding.{seated}
-use Rattle.server_engine.proofs.Midways.{among_cell, visit_midway, visit_less}
+use Rattle.server_engine.proofs.Midways.{among_cell, cell_not_done, visit_adds_none, visit_midway, visit_less}
 use Rattle.server_engine.proofs.Pairs.{index_there}
 use Rattle.server_engine.proofs.one_thread.Core.visit.Goals as goal
 
@@ -70,3 +70,19 @@ returns-clause-less g c =
     (λ u. need_of u.seat ≡ need.Cell c.args.cell) r.needs y there in
     visit_less g.H.Hash32.digest r.h r.a c.args.session c.args.self.now r.midway y there r.below c.args.cell needs x
     c.visit.new.cell here c.visit.new.seat c.visit.ensures.visits c.visit.ensures.comes_on
+
+pub returns-clause-pending : goal.returns-clause-pending
+returns-clause-pending g c = λ ending.
+    let r = c.requires in
+    let y = c.index_mut.result.now in
+    let x = c.index_mut-2.result.now in
+    let there = index_there c.args.self.now.sessions.items c.args.session y
+    (midway_near c.args.self.now c.args.session g.H.Hash32.digest r.h r.a r.midway) c.index_mut.ensures.value in
+    let here = index_there c.args.self.now.cells.items c.args.cell x
+    (cell_near c.args.self.now c.args.session g.H.Hash32.digest r.h r.a r.midway c.args.cell r.needs) c.index_mut-2.ensures.value in
+    let needs = midway_at c.args.self.now c.args.session g.H.Hash32.digest r.h r.a r.midway
+    (λ u. need_of u.seat ≡ need.Cell c.args.cell) r.needs y there in
+    let leaves = ending_leaves y.seat (need.Cell c.args.cell) (ending_at c.args.self.now c.args.session ending y there) needs
+    (cell_not_done c.args.cell) in
+    visit_adds_none g.H.Hash32.digest r.h r.a c.args.session c.args.self.now r.midway y there r.below c.args.cell needs x
+    c.visit.new.cell here c.visit.new.seat c.visit.ensures.visits leaves

@@ -51,7 +51,7 @@ returns-clause-midway g c = λ h a m below.
     (λ u. need_of u.seat ≡ need.All) r.needs y there in
     let w = subst (λ cs. KeepsSessionImage g.H.Hash32.digest cs y c.keep_image.new.self) c.deref.ensures.value c.in_ok-keep_image.ensures.kept in
     image_midway g.H.Hash32.digest h a c.args.session c.args.self.now m y there below _ refl needs c.keep_image.new.self
-    (image_in (items_in c.args.self.now.cells.items) w.image) w.keeps w.stays refl refl w.entries w.images
+    (image_in (items_in c.args.self.now.cells.items) w.image) w.keeps w.stays refl refl w.entries w.last w.images
 
 pub returns-clause-turned : goal.returns-clause-turned
 returns-clause-turned g c =

@@ -10,6 +10,7 @@ returns-clause-kept g c =
       keeps = k.keeps;
       stays = k.stays;
       entries = refl;
+      last = refl;
       images = c.from_vec.ensures ∙ k.images
           ∙ ap (λ (all : List KeptImage). all ++ images_kept (image_in (items_in c.args.cells.now) k.image))
           (c.into_vec-images.ensures ∙ c.replace.ensures.value);

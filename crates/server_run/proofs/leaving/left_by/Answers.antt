@@ -1,7 +1,0 @@
-use Rattle.std.proofs.Common.{sym, subst}
-use Rattle.server_run.specs.Saved.{HasSaved}
-use Rattle.server_run.proofs.Leavings.{saved_of}
-use Rattle.server_run.proofs.leaving.left_by.Goals as goal
-
-pub returns : goal.returns
-returns c = subst (HasSaved c.args.finished) (sym c.into_run_outcome.ensures.ran) (saved_of c.args.finished c.in_ok-leave.field-0 c.in_ok-leave.ensures c.into_run_outcome.ensures.next)

@@ -1,0 +1,10 @@
+mod Going
+mod Over
+mod Ready
+mod Seating
+mod Snapshots
+mod StepsAhead
+mod Telling
+mod Visiting
+pub use Rattle.server_board.proofs.Beginning
+pub use Rattle.server_engine.proofs.FirstCells
