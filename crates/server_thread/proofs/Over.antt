@@ -7,11 +7,11 @@ use Rattle.spec_syntax.specs.Text.{statement_of}
 use Rattle.format_transcript.specs.TranscriptText.{entry_text}
 use Rattle.spec_protocol.specs.Serves.{Serves}
 use Rattle.spec_protocol.specs.Alone.{more}
-use Rattle.spec_protocol.specs.Seats.{KeptImage, Session, SeatState, Written}
+use Rattle.spec_protocol.specs.Seats.{Session, SeatState, Written}
 use Rattle.spec_protocol.specs.Server.{Server}
 use Rattle.server_result.specs.Moments.{IsMoment}
 use Rattle.server_session.specs.Rest.{MayEndSession, MayEndSessionAt}
-use Rattle.server_session.specs.Steps.{Ends, end_of, images_kept, last_entries}
+use Rattle.server_session.specs.Steps.{Ends, end_of, last_entries}
 use Rattle.server_session.specs.declared.running.Running.{Running}
 use Rattle.server_session.specs.declared.stage.ControlPoint.{ControlPoint}
 use Rattle.server_session.specs.declared.stage.ControlPoint.TheVariants.{Between, Inside, Leaving, Over}
@@ -22,6 +22,7 @@ use Rattle.server_thread.specs.Seated.{known_by, says_in, texts_in, under_way, H
 use Rattle.server_thread.specs.Wrote.{HasLeft, HasWritten, IsWritten, left_of}
 use Rattle.server_thread.specs.declared.worker.Job.{Job}
 use Rattle.server_engine.specs.declared.session.SessionEnd.{SessionEnd}
+use Rattle.server_engine.proofs.Holding.{left_shown}
 use Rattle.server_thread.proofs.Going.{all_answered}
 use Rattle.server_thread.proofs.Seating.{at, statements_more, texts_more}
 
@@ -36,16 +37,16 @@ no_statement : (end : Option EndLine) → statements (last_entries end) ≡ []
 no_statement None = refl
 no_statement (Some line) = refl
 
-taken_all : (ts : List (Bor Text)) (n : ℕ) → n ≡ length ts → take n (texts_in ts) ≡ texts_in ts
+pub taken_all : (ts : List (Bor Text)) (n : ℕ) → n ≡ length ts → take n (texts_in ts) ≡ texts_in ts
 taken_all ts n e = ap (λ (k : ℕ). take k (texts_in ts)) e ∙ whole ts
   where
     whole : (us : List (Bor Text)) → take (length us) (texts_in us) ≡ texts_in us
     whole [] = refl
     whole (u ∷ us) = ap (λ (rest : List Text). u.now ∷ rest) (whole us)
 
-module _ {H C : Type 0} (digest : H → List ℕ → List ℕ) (says : C → ℕ → Type 0) (job : Job H C) (v : Server) (serves : Serves (digest job.hasher) statement_of v) (y z : core.Session H) (n : ℕ) (image : Option KeptImage) (stored : image ≡ None) (s : SeatState)
-    (ahead : IsAhead digest says v (at job y n image) s) (ends : MayEndSession y.seat) (all : n ≡ length job.statements.now) (left : LeavesSession digest y z) where
-  abbrev now : IsSeated digest says (known_by s) s.written (at job y n image) ahead.t
+module _ {H C : Type 0} (digest : H → List ℕ → List ℕ) (says : C → ℕ → Type 0) (job : Job H C) (v : Server) (serves : Serves (digest job.hasher) statement_of v) (y z : core.Session H) (n : ℕ) (s : SeatState)
+    (ahead : IsAhead digest says v (at job y n) s) (ends : MayEndSession y.seat) (left : LeavesSession digest y z) where
+  abbrev now : IsSeated digest says (known_by s) s.written (at job y n) ahead.t
   now = ahead.seated
 
   abbrev its_end : Ends v ahead.t y.seat
@@ -60,25 +61,24 @@ module _ {H C : Type 0} (digest : H → List ℕ → List ℕ) (says : C → ℕ
   entries_are : its_end.w.transcript.entries ≡ now.sits.x.transcript.entries ++ last
   entries_are = its_end.entries ∙ ap (λ (x : Session). x.transcript.entries ++ last) was
 
-  texts_are : statements its_end.w.transcript.entries ≡ texts_in job.statements.now
+  texts_are : statements its_end.w.transcript.entries ≡ take n (texts_in job.statements.now)
   texts_are = ap statements entries_are ∙ statements_more now.sits.x.transcript.entries last ∙ ap (λ (ts : List Text). statements now.sits.x.transcript.entries ++ ts) (no_statement (end_of y.seat.running))
-      ∙ append-nil (statements now.sits.x.transcript.entries) ∙ all_answered digest says job v serves y n image s ahead (none_at_end y.seat.point y.seat.running y.seat.text ends) ∙ taken_all job.statements.now n all
+      ∙ append-nil (statements now.sits.x.transcript.entries) ∙ all_answered digest says job v serves y n s ahead (none_at_end y.seat.point y.seat.running y.seat.text ends)
 
   shown : texts_shown z ≡ map (entry_text job.name.now) its_end.w.transcript.entries
-  shown = ap₂ (λ (texts more : List Text). texts ++ more) left.entries
-      (ap₂ (λ (name : Text) (end : Option EndLine). map (entry_text name) (last_entries end)) (left.name ∙ now.name) left.last) ∙ ap (λ (ts : List Text). ts ++ map (entry_text job.name.now) last) now.entries
+  shown = left_shown y z now.last left ∙ ap₂ (λ (texts : List Text) (name : Text). texts ++ map (entry_text name) last) now.entries now.name
       ∙ sym (texts_more (entry_text job.name.now) now.sits.x.transcript.entries last) ∙ ap (map (entry_text job.name.now)) (sym entries_are)
 
-  is_written : IsWritten (says_in says job) job.name.now (texts_in job.statements.now) (left_of (at job z n image)) its_end.w
+  is_written : IsWritten (says_in says job) job.name.now (take n (texts_in job.statements.now)) (left_of (at job z n)) its_end.w
   is_written = record {
     session = its_end.session ∙ ap (λ (x : Session). x.transcript.session) was ∙ now.sits.name ∙ now.name;
     texts = texts_are;
     entries = shown;
-    images = left.images ∙ sym (append-nil y.images) ∙ ap (λ (i : Option KeptImage). y.images ++ images_kept i) (sym stored) ∙ sym now.images ∙ sym (its_end.images ∙ ap (λ (x : Session). x.images) was);
+    images = left.images ∙ sym now.images ∙ sym (its_end.images ∙ ap (λ (x : Session). x.images) was);
     moments = subst (Each (IsMoment (says_in says job))) (sym (its_end.moments ∙ ap (λ (x : Session). x.moments) was)) now.moments;
   }
 
-  pub leaves_ahead : HasLeft says v (at job z n image) s
+  pub leaves_ahead : HasLeft says v (at job z n) s
   leaves_ahead = record {
     t = its_end.t;
     steps = more ahead.steps its_end.step;
