@@ -1,7 +1,7 @@
 -- The hashes of some leaves, in parts of a list.
 use Rattle.std.proofs.Common.{◌≡◌, ◌∙◌, ℕ, List, ◌∷◌, ◌++◌, length, map, take, drop, sym, ap}
 use Rattle.std.proofs.Math.Seq.{take-append_seam}
-use Rattle.std.proofs.lemmas.List.{drop-map, take-map}
+use Rattle.std.proofs.lemmas.List.{drop-map, map-append, take-map}
 use Rattle.std.proofs.lemmas.Simd.{map-map}
 use Rattle.format_event.specs.Leaf.{event_bytes}
 use Rattle.sql_types.specs.declared.event.Event.{Event}
@@ -32,3 +32,8 @@ hashes_of_leaves h own hashes is =
 -- the first part of a list
 pub front_part : (own others rest : List Mark) → rest ≡ own ++ others → own ≡ take (length own) rest
 front_part own others rest parts = sym (take-append_seam own others) ∙ ap (take (length own)) (sym parts)
+
+-- those of two parts
+pub hashes_of_both : (h : List ℕ → List ℕ) (marks a b : List Mark) (hashes : List (List ℕ)) → marks ≡ a ++ b → hashes ≡ map (leaf_hash h) a ++ map (leaf_hash h) b
+    → hashes ≡ map (leaf_hash h) marks
+hashes_of_both h marks a b hashes parts is = is ∙ sym (map-append (leaf_hash h) a b) ∙ ap (map (leaf_hash h)) (sym parts)

@@ -2,6 +2,7 @@ pub mod Bad
 pub mod BlockParts
 pub mod EntryPlaces
 pub mod EventIds
+pub mod FirstParts
 pub mod Fitting
 pub mod GroupParts
 pub mod Grouped
@@ -9,6 +10,7 @@ pub mod GroupsMerge
 pub mod Hashed
 pub mod IdsAt
 pub mod InRows
+pub mod KeyNumbers
 pub mod LeafOrder
 pub mod EntryRoots
 pub mod InRuns
@@ -27,4 +29,5 @@ pub mod TableRoots
 pub mod Tables
 pub mod VerdictParts
 pub mod WorstParts
+pub mod Woven
 pub mod WrongRoots

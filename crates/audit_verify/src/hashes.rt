@@ -1,8 +1,9 @@
 //! The hashes of the leaves of starts and ends.
 
-ghost use Rattle.std.specs.Prelude.{All, ◌≡◌, ◌∷◌, [], IfOk, OnOk, map};
+ghost use Rattle.std.specs.Prelude.{All, ◌≡◌, ◌∷◌, ◌++◌, [], IfOk, OnOk, drop, map, take};
+ghost use Rattle.std.specs.List.{filter};
 ghost use Rattle.format_event.specs.Leaf.{event_bytes};
-ghost use Rattle.audit_verify.specs.Marks.{event_of, leaf_hash, HasValues};
+ghost use Rattle.audit_verify.specs.Marks.{event_of, leaf_hash, is_end, is_start, woven, HasValues};
 
 use crate::marks::{Mark, put_leaf};
 use base_merkle::{Hash32, leaf_hash};
@@ -59,9 +60,91 @@ fn four_hashes<H: Hash32>(
     Ok(four_leaf_hashes(hasher, &leaves.a, &leaves.b, &leaves.c, &leaves.d))
 }
 
-/// The hashes of the leaves, in their order. As many as can be are computed four at a time, whatever their
-/// transactions and tables. The only error is want of memory.
+/// The hashes of the leaves, in their order. The leaf of an end is longer than that of its version's start, and only
+/// leaves of one number of the hash's blocks gain by being hashed together: so starts and ends are hashed apart. The
+/// only error is want of memory.
 pub fn leaf_hashes<H: Hash32>(
+    alloc: Global,
+    hasher: H,
+    marks: &[Mark],
+) -> Result<Vec<[u8; 32]>, Memory>
+    requires { All HasValues marks.now }
+    ensures { IfOk result (λ hashes. hashes.items ≡ map (leaf_hash (H.digest hasher)) marks.now) }
+{
+    let starts = starts_of(alloc, marks)?;
+    let ends = ends_of(alloc, marks)?;
+    let of_starts = hashes_in_fours(alloc, hasher, &starts)?;
+    let of_ends = hashes_in_fours(alloc, hasher, &ends)?;
+    woven(alloc, marks, &of_starts, &of_ends)
+}
+
+fn starts_of<'a>(alloc: Global, marks: &[Mark<'a>]) -> Result<Vec<Mark<'a>>, Memory>
+    ensures { IfOk result (λ starts. starts.items ≡ filter is_start marks.now) }
+{
+    let mut starts = Vec::new(alloc);
+    for mark in marks {
+        if !mark.is_end {
+            starts.push(*mark)?;
+        }
+    }
+    Ok(starts)
+}
+
+fn ends_of<'a>(alloc: Global, marks: &[Mark<'a>]) -> Result<Vec<Mark<'a>>, Memory>
+    ensures { IfOk result (λ ends. ends.items ≡ filter is_end marks.now) }
+{
+    let mut ends = Vec::new(alloc);
+    for mark in marks {
+        if mark.is_end {
+            ends.push(*mark)?;
+        }
+    }
+    Ok(ends)
+}
+
+/// For each start the next of the first hashes, and for each end the next of the second.
+#[tactic(auto, using(crate::proofs::Woven::end_next, crate::proofs::Woven::start_next))]
+fn woven(
+    alloc: Global,
+    marks: &[Mark],
+    starts: &[[u8; 32]],
+    ends: &[[u8; 32]],
+) -> Result<Vec<[u8; 32]>, Memory>
+    ensures { IfOk result (λ hashes. hashes.items ≡ woven marks.now starts.now ends.now) }
+{
+    let mut hashes = Vec::with_capacity(alloc, marks.len())?;
+    let mut starts = starts;
+    let mut ends = ends;
+    for mark in marks {
+        if mark.is_end {
+            ends = put_first(ends, &mut hashes)?;
+        } else {
+            starts = put_first(starts, &mut hashes)?;
+        }
+    }
+    Ok(hashes)
+}
+
+/// Appends the first of these hashes, if there is one, and gives those behind it.
+fn put_first<'h>(
+    given: &'h [[u8; 32]],
+    hashes: &mut Vec<[u8; 32]>,
+) -> Result<&'h [[u8; 32]], Memory>
+    ensures first { OnOk result (hashes.new.items ≡ hashes.old.items ++ take 1 given.now) }
+    ensures behind { IfOk result (λ behind. behind.now ≡ drop 1 given.now) }
+{
+    match given {
+        [] => Ok(given),
+        [first, behind @ ..] => {
+            hashes.push(*first)?;
+            Ok(behind)
+        }
+    }
+}
+
+/// The hashes of the leaves, in their order. As many as can be are computed four at a time, whatever their
+/// transactions and tables.
+fn hashes_in_fours<H: Hash32>(
     alloc: Global,
     hasher: H,
     marks: &[Mark],

@@ -1,6 +1,6 @@
 use Rattle.std.proofs.Common.{◌≡◌, ◌≤◌, ◌-◌, length, map, take}
 use Rattle.audit_verify.specs.Marks.{leaf_hash}
-use Rattle.audit_verify.proofs.hashes.leaf_hashes.Given as goal
+use Rattle.audit_verify.proofs.hashes.hashes_in_fours.Given as goal
 
 abbrev pub invariant-fours : goal.invariant-fours
 invariant-fours g l = (l.done ≤ length l.marks)
