@@ -5,11 +5,11 @@ use Rattle.sql_types.specs.declared.entry.TxEntry.{TxEntry}
 use Rattle.sql_types.specs.declared.event.Event.{Event}
 use Rattle.sql_types.specs.declared.version.Table.{Table}
 use Rattle.format_event.specs.Leaf.{event_bytes, encoded, without_nulls, HasLeaf}
-use Rattle.law_frame.proofs.Alls.{all_filter}
+use Rattle.spec_verify.proofs.Alls.{all_filter}
 use Rattle.base_merkle.specs.TreeHash.{tree_hash}
 use Rattle.spec_model.specs.Catalog.{Tables}
 use Rattle.spec_model.specs.Events.{events_of}
-use Rattle.spec_ledger.specs.Entries.{has_events, leaves_of, root_in, roots_of}
+use Rattle.format_image.specs.Entries.{has_events, leaves_of, root_in, roots_of}
 use Rattle.spec_verify.specs.Covered.{TableEvents, told_in, CoveredEntry, covered_entry}
 use Rattle.audit_extract.specs.declared.leaves.Leaf.{Leaf}
 use Rattle.audit_extract.specs.Leaves.{tree_of, IsRooted, HasRoots, SameTree, SameTrees}

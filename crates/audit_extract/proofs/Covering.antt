@@ -7,7 +7,7 @@ use Rattle.base_types.specs.declared.memory.Memory.{Memory}
 use Rattle.sql_types.specs.declared.digest.HeldDigest.{HeldDigest}
 use Rattle.sql_types.specs.declared.entry.TxEntry.{TxEntry}
 use Rattle.sql_types.specs.declared.image.Image.{Image}
-use Rattle.spec_ledger.specs.Blocks.{no_hash}
+use Rattle.format_image.specs.Blocks.{no_hash}
 use Rattle.format_image.specs.Tables.{tables_in}
 use Rattle.spec_verify.specs.Blocks.{entries_before}
 use Rattle.spec_verify.specs.Covered.{covered_entry, covered_of}

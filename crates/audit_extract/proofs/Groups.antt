@@ -14,7 +14,7 @@ use Rattle.std.proofs.lemmas.List.Elements.{filter-append, filter_agree, recursi
 use Rattle.std.proofs.lemmas.List.Sorted.{ranks_by, sorted_far, searchable_from_sorted, IsPartitionedBy-leb, IsPartitionedBy-ltb, IsNonDecreasingBy-drop}
 use Rattle.spec_model.specs.Lists.{sorted}
 use Rattle.spec_model.specs.Rows.{event_cmp}
-use Rattle.law_frame.proofs.Alls.{all_weaker}
+use Rattle.spec_verify.proofs.Alls.{all_weaker}
 use Rattle.sql_parts.proofs.Orders.{event_total}
 use Rattle.sql_parts.proofs.Sorting.{sorted_stably}
 use Rattle.audit_extract.specs.declared.leaves.Leaf.{Leaf}

@@ -15,9 +15,9 @@ use Rattle.format_entry.specs.Entry.{entry_bytes}
 use Rattle.base_merkle.specs.TreeHash.{tree_hash}
 use Rattle.spec_model.specs.Limits.{max_block}
 use Rattle.spec_model.specs.Lists.{or_else}
-use Rattle.spec_ledger.specs.Entries.{at_place, placed}
-use Rattle.spec_ledger.specs.Blocks.{no_hash, block_of, record_hash, first_or_no_hash}
-use Rattle.spec_ledger.specs.Parts.{by_sizes, IsBlockOf}
+use Rattle.format_image.specs.Entries.{at_place, placed}
+use Rattle.format_image.specs.Blocks.{no_hash, block_of, record_hash, first_or_no_hash}
+use Rattle.format_image.specs.Parts.{by_sizes, IsBlockOf}
 use Rattle.format_image.specs.ImageBytes.{IsImage, sizes_of}
 use Rattle.spec_verify.specs.First.{unless, first_from}
 use Rattle.spec_verify.specs.Blocks.{entries_before, entries_in, hash_before, link_holds, block_holds, chain_fault, block_fault}

@@ -15,13 +15,13 @@ use Rattle.sql_types.specs.declared.version.Table.{Table}
 use Rattle.sql_types.specs.declared.version.Version.{Version}
 use Rattle.format_event.specs.Leaf.{event_bytes, HasLeaf}
 use Rattle.format_event.proofs.Values.{has_leaf}
-use Rattle.law_frame.proofs.Alls.{all_append, all_filter, all_sorted, all_weaker}
+use Rattle.spec_verify.proofs.Alls.{all_append, all_filter, all_sorted, all_weaker}
 use Rattle.spec_model.specs.Catalog.{Defs, Tables}
 use Rattle.spec_model.specs.Events.{end_events, version_events, events_of}
 use Rattle.spec_model.specs.Lists.{sorted}
 use Rattle.spec_model.specs.Rows.{EventId}
 use Rattle.spec_model.specs.SystemTables.{tables_def, columns_def}
-use Rattle.spec_ledger.specs.Entries.{leaves_of}
+use Rattle.format_image.specs.Entries.{leaves_of}
 use Rattle.sql_parts.proofs.Sorting.{sorted-map}
 use Rattle.format_image.specs.DefBytes.{IsDef}
 use Rattle.format_image.specs.ImageBytes.{IsImage, AreTables}

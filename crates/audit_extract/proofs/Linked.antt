@@ -10,7 +10,7 @@ use Rattle.sql_types.specs.declared.entry.BlockRecord.{BlockRecord}
 use Rattle.sql_types.specs.declared.image.Image.{Image}
 use Rattle.format_entry.specs.Record.{record_bytes, IsRecord}
 use Rattle.format_entry.proofs.RecordExact.{equal_records}
-use Rattle.spec_ledger.specs.Blocks.{hash_at, first_or_no_hash}
+use Rattle.format_image.specs.Blocks.{hash_at, first_or_no_hash}
 use Rattle.spec_verify.specs.Blocks.{hash_before, digest_holds, digest_fault}
 use Rattle.spec_verify.specs.Collision.{Collides}
 use Rattle.spec_verify.specs.First.{unless}

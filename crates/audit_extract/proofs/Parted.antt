@@ -9,9 +9,9 @@ use Rattle.format_entry.specs.Entry.{IsEntry, entry_bytes}
 use Rattle.format_entry.proofs.EntryExact.{equal_entries}
 use Rattle.base_merkle.specs.TreeHash.{tree_hash}
 use Rattle.spec_model.specs.Limits.{max_block}
-use Rattle.spec_ledger.specs.Blocks.{no_hash, block_of, record_hash}
-use Rattle.spec_ledger.specs.Entries.{placed}
-use Rattle.spec_ledger.specs.Parts.{IsBlockOf}
+use Rattle.format_image.specs.Blocks.{no_hash, block_of, record_hash}
+use Rattle.format_image.specs.Entries.{placed}
+use Rattle.format_image.specs.Parts.{IsBlockOf}
 use Rattle.format_image.specs.ImageBytes.{IsPlaceless}
 use Rattle.spec_verify.specs.Blocks.{entries_before}
 use Rattle.audit_extract.specs.Meets.{Meets}

@@ -16,9 +16,9 @@ use Rattle.format_entry.proofs.RecordExact.{equal_records}
 use Rattle.base_merkle.specs.TreeHash.{tree_hash, split_of}
 use Rattle.spec_model.specs.Catalog.{Tables}
 use Rattle.spec_model.specs.Events.{events_of}
-use Rattle.spec_ledger.specs.Blocks.{first_or_no_hash}
-use Rattle.spec_ledger.specs.Entries.{has_events, leaves_of, root_in, roots_of}
-use Rattle.law_frame.proofs.Alls.{all_filter}
+use Rattle.format_image.specs.Blocks.{first_or_no_hash}
+use Rattle.format_image.specs.Entries.{has_events, leaves_of, root_in, roots_of}
+use Rattle.spec_verify.proofs.Alls.{all_filter}
 use Rattle.format_image.specs.ImageBytes.{IsImage}
 use Rattle.format_image.specs.Tables.{tables_in}
 use Rattle.spec_verify.specs.Blocks.{hash_before}

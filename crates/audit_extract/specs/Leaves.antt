@@ -12,7 +12,7 @@ use Rattle.sql_types.specs.declared.version.Table.{Table}
 use Rattle.spec_model.specs.Catalog.{Tables}
 use Rattle.spec_model.specs.Events.{version_events}
 use Rattle.spec_model.specs.Rows.{event_cmp, same_event}
-use Rattle.spec_ledger.specs.Entries.{leaves_of}
+use Rattle.format_image.specs.Entries.{leaves_of}
 use Rattle.audit_extract.specs.declared.leaves.Leaf.{Leaf}
 
 -- a transaction and a table

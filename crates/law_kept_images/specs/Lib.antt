@@ -3,3 +3,4 @@ pub mod LastImage
 pub use Rattle.law_sequential.specs.SessionOutput
 pub use Rattle.law_sequential.specs.Wrote
 pub use Rattle.law_accepts.specs.Held
+pub use Rattle.law_sequential.specs.Outcome

@@ -16,3 +16,4 @@ pub mod ToldTables
 pub mod ToldVersions
 mod Worked
 mod WorkedBytes
+pub use Rattle.law_catalog_rows.proofs.Alls

@@ -2,14 +2,14 @@
 use Rattle.std.specs.Prelude.{ℕ, zero, suc, ◌+◌, ◌==◌, ◌&&◌, nat_lt, nat_le, Bool, List, length, map, take, drop, Option}
 use Rattle.std.specs.List.{sum_by}
 use Rattle.std.specs.Str.{bytes_eq}
-use Rattle.format_entry.specs.Entry.{entry_bytes}
+use Rattle.format_image.specs.Entry.{entry_bytes}
 use Rattle.base_merkle.specs.TreeHash.{tree_hash}
 use Rattle.sql_types.specs.declared.digest.HeldDigest.{HeldDigest}
 use Rattle.sql_types.specs.declared.entry.BlockRecord.{BlockRecord}
 use Rattle.sql_types.specs.declared.entry.TxEntry.{TxEntry}
 use Rattle.sql_types.specs.declared.image.Image.{Image}
 use Rattle.spec_model.specs.Limits.{max_block}
-use Rattle.spec_ledger.specs.Blocks.{no_hash, hash_at}
+use Rattle.format_image.specs.Blocks.{no_hash, hash_at}
 use Rattle.spec_verify.specs.declared.place.Place.{Place}
 use Rattle.spec_verify.specs.declared.place.Place.TheVariants as at
 use Rattle.spec_verify.specs.First.{unless, first}

@@ -14,3 +14,4 @@ pub mod Sentences
 pub mod Told
 pub mod Verdict
 pub mod Versions
+pub use Rattle.law_catalog_rows.specs.Least

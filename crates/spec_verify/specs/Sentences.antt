@@ -2,7 +2,7 @@
 -- law.
 use Rattle.std.specs.Prelude.{ℕ, ℤ, pos, ◌≡◌, ◌≢◌, ◌<◌, ◌≤◌, ◌+◌, ◌⊎◌, ◌==◌, true, List, length, map, flat_map, take, Option, None, IfSome, MatchOption}
 use Rattle.std.specs.List.{AllByRecursion, Any, filter, zip}
-use Rattle.format_entry.specs.Entry.{entry_bytes}
+use Rattle.format_image.specs.Entry.{entry_bytes}
 use Rattle.base_merkle.specs.TreeHash.{tree_hash}
 use Rattle.sql_value.specs.declared.column.TableKind.TheVariants.{AppendOnly}
 use Rattle.sql_types.specs.declared.digest.HeldDigest.{HeldDigest}
@@ -19,8 +19,8 @@ use Rattle.sql_types.specs.declared.version.Version.{Version}
 use Rattle.spec_model.specs.Events.{all_events}
 use Rattle.spec_model.specs.Limits.{max_block}
 use Rattle.spec_model.specs.SystemTables.{columns_id}
-use Rattle.spec_ledger.specs.Blocks.{hash_at}
-use Rattle.spec_ledger.specs.Entries.{roots_of}
+use Rattle.format_image.specs.Blocks.{hash_at}
+use Rattle.format_image.specs.Entries.{roots_of}
 use Rattle.format_image.specs.Tables.{tables_in, defs_in}
 use Rattle.law_catalog_rows.specs.Differs.{is_encoded, all_ids}
 use Rattle.spec_verify.specs.declared.place.Place.{Place}
