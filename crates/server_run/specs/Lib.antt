@@ -3,6 +3,7 @@ pub mod AtBoard
 pub mod CameTo
 pub mod Closing
 pub mod FinishedRun
+pub mod MayBegin
 pub mod Saved
 pub mod Seated
 pub mod Wrote

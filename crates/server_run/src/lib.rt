@@ -3,6 +3,7 @@
 
 mod builder;
 mod closing;
+mod laws;
 mod leaving;
 mod parts;
 mod running;
@@ -14,4 +15,6 @@ mod visits;
 mod whole;
 mod worker;
 
+pub use laws::runs_may_begin_with_the_first_cells;
 pub use running::{run_all, run_and_close};
+pub use server_engine::{Cell, first_cells};

@@ -10,6 +10,7 @@ ghost use Rattle.server_result.specs.Moments.{said_with};
 ghost use Rattle.law_concurrent.specs.CameTo.{RunResult};
 ghost use Rattle.sql_types.specs.declared.digest.Digest.{Digest};
 ghost use Rattle.sql_types.specs.declared.journal.TheConstants.{MAX_BLOCK};
+ghost use Rattle.server_run.specs.MayBegin.{MayBegin};
 ghost use Rattle.server_run.specs.CameTo.{CameTo, IsClosed, IsOf, and_digests};
 
 use crate::closing::close_all;
@@ -23,6 +24,7 @@ use law_concurrent::{
     digests_are_held_where_their_blocks_are_closed, images_of_legal_journals_verify,
     runs_side_by_side_agree,
 };
+use server_engine::Cell;
 use server_reader::images_of_cuts_are_encodable;
 use server_result::{RunOutcome, Settings, is_encodable, moment};
 use std::alloc::Global;
@@ -43,7 +45,7 @@ fn statement_count(all_sections: &RunSections<'_>) -> u32
     count as u32
 }
 
-/// Runs the plan on an empty database: the setup to its end, as the session `setup`, and then all sessions
+/// Runs the plan over the cells with which a database begins or goes on: the setup to its end, as the session `setup`, and then all sessions
 /// side by side, each in a thread of its own, while a builder closes blocks. What is written and saved of it
 /// agrees with what was answered, however the turns of sessions and builder fall.
 ///
@@ -59,10 +61,12 @@ pub fn run_all<H: Hash32, C: Clock, G: Gate, R: Threads + Wait + Sync>(
     alloc: Global,
     hasher: H,
     how: Settings<'_>,
+    cells: Vec<Cell>,
     all_sections: &RunSections<'_>,
     clock: &C,
     gate: &G,
 ) -> Result<RunOutcome, Memory>
+    requires begins { MayBegin (H.digest hasher) how.database.now how.block_size cells.items }
     requires database { is_database_name how.database.now ≡ true }
     requires some { 1 ≤ how.block_size }
     requires most { how.block_size ≤ MAX_BLOCK }
@@ -80,6 +84,7 @@ pub fn run_all<H: Hash32, C: Clock, G: Gate, R: Threads + Wait + Sync>(
         alloc,
         hasher,
         how,
+        cells,
         all_sections,
         visits,
         clock,
@@ -101,10 +106,12 @@ pub fn run_and_close<H: Hash32, C: Clock, G: Gate, R: Threads + Wait + Sync>(
     alloc: Global,
     hasher: H,
     how: Settings<'_>,
+    cells: Vec<Cell>,
     all_sections: &RunSections<'_>,
     clock: &C,
     gate: &G,
 ) -> Result<RunOutcome, Memory>
+    requires begins { MayBegin (H.digest hasher) how.database.now how.block_size cells.items }
     requires database { is_database_name how.database.now ≡ true }
     requires some { 1 ≤ how.block_size }
     requires most { how.block_size ≤ MAX_BLOCK }
@@ -123,6 +130,7 @@ pub fn run_and_close<H: Hash32, C: Clock, G: Gate, R: Threads + Wait + Sync>(
         alloc,
         hasher,
         how,
+        cells,
         all_sections,
         visits,
         clock,

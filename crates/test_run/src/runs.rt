@@ -5,6 +5,7 @@ ghost use Rattle.std.specs.Prelude.{◌≤◌};
 use crate::gates::{HoldBothGate, HoldBuilderGate, HoldInsideGate};
 use base_io::{FixedClock, Gate, OpenGate};
 use base_merkle::Sha256Hash;
+use base_types::Name;
 use format_sections::read_run_sections;
 use server_result::{RunOutcome, Settings};
 use sql_types::JournalItem;
@@ -12,7 +13,7 @@ use std::sync::Wait;
 use std::sync::atomic::Ordering::SeqCst;
 use std::test::Fail;
 use std::thread::Threads;
-use workload_run::run_all;
+use workload_run::{first_cells, run_all, runs_may_begin_with_the_first_cells};
 
 /// The longest input that is run here, in bytes.
 const MOST_INPUT: usize = 1_000_000;
@@ -49,10 +50,25 @@ fn run<R: Threads + Wait + AllocGlobal + Sync, G: Gate>(
         database: "LedgerDB",
     };
     let clock = FixedClock { at: 0 };
+    // A law: it does nothing.
+    runs_may_begin_with_the_first_cells();
+    let database = Name::of_str(rt.alloc(), how.database).ok().ok_or("memory")?;
+    let cells = first_cells(rt.alloc(), database, block_size)
+        .ok()
+        .ok_or("memory")?;
     Ok(
-        run_all(rt, rt.alloc(), Sha256Hash, how, &all_sections, &clock, gate)
-            .ok()
-            .ok_or("memory")?,
+        run_all(
+            rt,
+            rt.alloc(),
+            Sha256Hash,
+            how,
+            cells,
+            &all_sections,
+            &clock,
+            gate,
+        )
+        .ok()
+        .ok_or("memory")?,
     )
 }
 

@@ -1,0 +1,6 @@
+mod CellsThere
+mod Committed
+mod Forms
+mod GoesOn
+mod Transcripts
+mod Words
