@@ -8,12 +8,12 @@ use Rattle.spec_history.specs.Lists.{Text}
 use Rattle.spec_history.specs.Meaning.{Meaning}
 use Rattle.spec_history.specs.Sessions.{SessionTransaction, view, viewed}
 use Rattle.spec_history.specs.Transactions.{Transaction, TransactionLog, blank, read_facts}
-use Rattle.spec_history.specs.Worlds.{first, run}
+use Rattle.spec_history.specs.Worlds.{World, run}
 use Rattle.spec_history.proofs.Cuts.{good_append}
 use Rattle.spec_history.proofs.Finding.{is_meets}
 use Rattle.spec_history.proofs.Refused.{below_or_nil}
 use Rattle.spec_history.proofs.Signs.{one_shown}
-use Rattle.spec_history.proofs.TransactionLogs.{has_book}
+use Rattle.spec_history.proofs.TransactionLogs.{HasBook, has_book}
 use Rattle.law_order.specs.OneOrder.{SessionFact, IsOpenElsewhere, facts_of_session, named}
 use Rattle.law_order.proofs.Parts.{order_of, part_of}
 
@@ -73,7 +73,7 @@ module _ (names : ℕ → Text) where
 
 -- ---- the holder
 
-module _ (q : Meaning) (db : Text) (es : List Act) (g : Good q db first es) (names : ℕ → Text) (n : ℕ) (below : SessionsBelow n es) (apart : (s t : ℕ) → s < n → t < n → s ≢ t → names s ≢ names t) where
+module _ (q : Meaning) (db : Text) (start : World) (blank_there : (t : ℕ) → HasBook (start.at t) []) (es : List Act) (g : Good q db start es) (names : ℕ → Text) (n : ℕ) (below : SessionsBelow n es) (apart : (s t : ℕ) → s < n → t < n → s ≢ t → names s ≢ names t) where
   abbrev opened_by : List Fact → Option Transaction
   opened_by gs = (read_facts blank gs).open_one
 
@@ -83,11 +83,11 @@ module _ (q : Meaning) (db : Text) (es : List Act) (g : Good q db first es) (nam
   pub is_open : (earlier later : List SessionFact) (name text : Text) (holder : ℕ) → order_of names es ≡ earlier ++ (name, met text holder) ∷ later → IsOpenElsewhere name holder earlier
   is_open earlier later name text holder e =
       let f = find_met names es earlier later name text holder e in
-      let two = good_append q db first f.before (by f.session (meets text holder) ∷ f.after) (subst (Good q db first) f.is g) in
+      let two = good_append q db start f.before (by f.session (meets text holder) ∷ f.after) (subst (Good q db start) f.is g) in
       let parts = below_append n f.before (by f.session (meets text holder) ∷ f.after) (subst (SessionsBelow n) f.is below) in
-      let m : Meets q (run first f.before) f.session text holder = two.1.0 in
+      let m : Meets q (run start f.before) f.session text holder = two.1.0 in
       let its : opened_by (all_shown (of m.other f.before)) ≡ Some (view m.theirs) =
-      ap (λ (b : TransactionLog). b.open_one) (has_book q db m.other first f.before [] two.0 refl) ∙ ap (λ (o : Option SessionTransaction). viewed o) m.has in
+      ap (λ (b : TransactionLog). b.open_one) (has_book q db m.other start f.before [] two.0 (blank_there m.other)) ∙ ap (λ (o : Option SessionTransaction). viewed o) m.has in
       let l : m.other < n = ⊎_elim (λ (k : m.other < n). k) (λ (none : of m.other f.before ≡ []). absurd (nobody (view m.theirs) (sym (ap (λ (xs : List SessionAct). opened_by (all_shown xs)) none) ∙ its))) (below_or_nil m.other n f.before parts.0) in
       record {
         other = names m.other;

@@ -83,7 +83,7 @@ module _ (q : Meaning) (db : Text) (es : List Act) (g : Good q db first es) (inp
     marks = subst (MarksRise J) (sym (all_facts names es)) (never_fall J 1 0 (facts_in es) its_counts);
     counted = subst (Counted J 1 0) (sym (all_facts names es)) its_counts;
     images = subst (ImagesHave J) (sym (all_facts names es)) (have_blocks q db first es g);
-    holders = λ earlier later name text holder e. is_open q db es g names (length X) whole.all apart earlier later name text holder e;
+    holders = λ earlier later name text holder e. is_open q db first (λ t. refl) es g names (length X) whole.all apart earlier later name text holder e;
   }
 
   pub in_one_order : HaveOneOrder q setup X J

@@ -1,5 +1,5 @@
-mod Counts
-mod Holders
-mod ImagesInOrder
+pub mod Counts
+pub mod Holders
+pub mod ImagesInOrder
 pub mod InOrder
-mod Parts
+pub mod Parts

@@ -113,14 +113,24 @@ names_are at n (s ∷ input) (x ∷ X) (m ∷ ns) a l f = ap₂ (λ (k : Text) (
     (ap (λ (z : Transcript). z.session) a.1 ∙ ap (λ (k : ℕ). (at k).name) (let e : n ≡ n + 0 = omega arith in e) ∙ f zero m refl)
     (names_are at (suc n) input X ns a.3 (omega (arith, l)) (λ i name e. ap (λ (k : ℕ). (at k).name) (let g : suc n + i ≡ n + suc i = omega arith in g) ∙ f (suc i) name e))
 
-pub in_order : (v : Server) {history : History} (cells : List Cell) (seats : List SeatState) (st : Stands v history cells seats) → BeginInTurn first history → (input : List InputSession) (X : List Transcript) → AreWritten history seats input X → map (λ x. x.session) X ≡ names_begun (map anonymous_act history)
-in_order v {history} cells seats st turn input X written = names_are (run first history).at 0 input X (names_begun (map anonymous_act history)) written.sessions as_many (λ i name a. ap (λ (k : ℕ). ((run first history).at k).name) (let e : 0 + i ≡ i = omega arith in e) ∙ (are.named i name a).1)
-  where
-    are : AreNumbered (run first history).at (names_begun (map anonymous_act history))
-    are = numbered v.meaning st.ledger.database first history [] st.transcripts_agree.good turn (record { named = λ i name a. absurd a; others = λ i l. refl })
+-- of sessions that are all over, where none had begun before
+module _ (q : Meaning) (db : Text) (w : World) (es : List Act) (good : Good q db w es) (turn : BeginInTurn w es) (none : (n : ℕ) → (w.at n).phase ≡ unborn) (input : List InputSession) (X : List Transcript)
+    (sessions : AreOf (run w es).at 0 input X) (over : (n : ℕ) → n < length X → ((run w es).at n).phase ≡ gone) (no_others : (n : ℕ) → length X ≤ n → ((run w es).at n).phase ≡ unborn) where
+  abbrev begun_names : List Text
+  begun_names = names_begun (map anonymous_act es)
 
-    as_many : length (names_begun (map anonymous_act history)) ≡ length X
-    as_many = ⊎_elim
-        (λ (l : length X < length (names_begun (map anonymous_act history))). let e = element (names_begun (map anonymous_act history)) (length X) l in absurd ((are.named (length X) e.name e.at).0 (ap (λ (z : SessionState). z.phase) (written.no_others (length X) (omega arith)).0)))
-        (λ l. ⊎_elim (λ (k : length (names_begun (map anonymous_act history)) < length X). (let f : gone ≡ unborn = sym (written.over (length (names_begun (map anonymous_act history))) k) ∙ are.others (length (names_begun (map anonymous_act history))) (omega arith) in cc)) (λ k. omega (arith, l, k)) (cases_lt (length (names_begun (map anonymous_act history))) (length X)))
-        (cases_lt (length X) (length (names_begun (map anonymous_act history))))
+  are : AreNumbered (run w es).at begun_names
+  are = numbered q db w es [] good turn (record { named = λ i name a. absurd a; others = λ i l. none i })
+
+  as_many : length begun_names ≡ length X
+  as_many = ⊎_elim
+      (λ (l : length X < length begun_names). let e = element begun_names (length X) l in absurd ((are.named (length X) e.name e.at).0 (no_others (length X) (omega arith))))
+      (λ l. ⊎_elim (λ (k : length begun_names < length X). (let f : gone ≡ unborn = sym (over (length begun_names) k) ∙ are.others (length begun_names) (omega arith) in cc)) (λ k. omega (arith, l, k)) (cases_lt (length begun_names) (length X)))
+      (cases_lt (length X) (length begun_names))
+
+  pub in_their_order : map (λ x. x.session) X ≡ names_begun (map anonymous_act es)
+  in_their_order = names_are (run w es).at 0 input X begun_names sessions as_many (λ i name a. ap (λ (k : ℕ). ((run w es).at k).name) (let e : 0 + i ≡ i = omega arith in e) ∙ (are.named i name a).1)
+
+pub in_order : (v : Server) {history : History} (cells : List Cell) (seats : List SeatState) (st : Stands v history cells seats) → BeginInTurn first history → (input : List InputSession) (X : List Transcript) → AreWritten history seats input X → map (λ x. x.session) X ≡ names_begun (map anonymous_act history)
+in_order v {history} cells seats st turn input X written = in_their_order v.meaning st.ledger.database first history st.transcripts_agree.good turn (λ n. refl) input X written.sessions written.over
+    (λ n l. ap (λ (z : SessionState). z.phase) (written.no_others n l).0)

@@ -93,7 +93,7 @@ module _ (u : ℕ) where
         let two = skip e es (until (step w e) (es ++ after)) n in
         nil_so (is_over w) (e ∷ until (step w e) (es ++ after)) (two.1 (quiet (step w e) es after g two.0))
 
-ran_before : (u : ℕ) (h : List Act) → ((run first h).at u).phase ≡ gone → ((s : ℕ) → s ≢ u → BeganAfter h u s) → RanBefore u h
+pub ran_before : (u : ℕ) (h : List Act) → ((run first h).at u).phase ≡ gone → ((s : ℕ) → s ≢ u → BeganAfter h u s) → RanBefore u h
 ran_before u h over began = record {
   earlier = until u first h;
   later = behind u first h;
@@ -112,12 +112,12 @@ at_below (y ∷ X) (suc i) x e = let l = at_below X i x e in omega arith
 -- ---- from what a seat wrote
 
 -- a session that is over, as its seat wrote it
-record WroteSo (h : List Act) (P : Written → Type 0) (n : ℕ) : Type 0 where
-  written : Written
-  past : IsPast h n written
-  so : P written
+pub record WroteSo (h : List Act) (P : Written → Type 0) (n : ℕ) : Type 0 where
+  pub written : Written
+  pub past : IsPast h n written
+  pub so : P written
 
-wrote_so : (h : List Act) (P : Written → Type 0) (ns : List ℕ) (ws : List Written) (n : ℕ) → Past h ns ws → In n ns → Each P ws → WroteSo h P n
+pub wrote_so : (h : List Act) (P : Written → Type 0) (ns : List ℕ) (ws : List Written) (n : ℕ) → Past h ns ws → In n ns → Each P ws → WroteSo h P n
 wrote_so h P [] ws n p i e = absurd i
 wrote_so h P (m ∷ ns) [] n p i e = absurd p
 wrote_so h P (m ∷ ns) (w ∷ ws) n p i e = ⊎_elim

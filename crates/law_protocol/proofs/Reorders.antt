@@ -23,10 +23,10 @@ turned_twice zero (suc (suc i)) = refl
 turned_twice (suc n) zero = refl
 turned_twice (suc n) (suc i) = ap suc (turned_twice n i)
 
-turned_one : (n i j : ℕ) → turned n i ≡ turned n j → i ≡ j
+pub turned_one : (n i j : ℕ) → turned n i ≡ turned n j → i ≡ j
 turned_one n i j e = sym (turned_twice n i) ∙ ap (turned n) e ∙ turned_twice n j
 
-turned_is : (n i j : ℕ) → turned n i ≡ j → i ≡ turned n j
+pub turned_is : (n i j : ℕ) → turned n i ≡ j → i ≡ turned n j
 turned_is n i j e = sym (turned_twice n i) ∙ ap (turned n) e
 
 module _ {A : Type 0} where
@@ -54,13 +54,13 @@ module _ {A : Type 0} where
   as_long zero (y ∷ z ∷ xs) = refl
   as_long (suc n) (y ∷ xs) = ap suc (as_long n xs)
 
-  same_sum : (f : A → ℕ) (n : ℕ) (xs : List A) → sum (map f (swapped n xs)) ≡ sum (map f xs)
+  pub same_sum : (f : A → ℕ) (n : ℕ) (xs : List A) → sum (map f (swapped n xs)) ≡ sum (map f xs)
   same_sum f n [] = refl
   same_sum f zero (y ∷ []) = refl
   same_sum f zero (y ∷ z ∷ xs) = omega arith
   same_sum f (suc n) (y ∷ xs) = ap (λ (m : ℕ). f y + m) (same_sum f n xs)
 
-  still_some : (P : A → Type 0) (n : ℕ) (xs : List A) → Some_of P xs → Some_of P (swapped n xs)
+  pub still_some : (P : A → Type 0) (n : ℕ) (xs : List A) → Some_of P xs → Some_of P (swapped n xs)
   still_some P n [] h = h
   still_some P zero (y ∷ []) h = h
   still_some P zero (y ∷ z ∷ xs) (inl h) = inr (inl h)
@@ -71,19 +71,19 @@ module _ {A : Type 0} where
 
 -- ---- statements
 
-as_many : (input : List InputSession) (X : List Transcript) → AreStatements input X → length input ≡ length X
+pub as_many : (input : List InputSession) (X : List Transcript) → AreStatements input X → length input ≡ length X
 as_many [] [] h = refl
 as_many [] (x ∷ X) h = absurd h
 as_many (s ∷ input) [] h = absurd h
 as_many (s ∷ input) (x ∷ X) h = ap suc (as_many input X h.1)
 
-statements_at : (input : List InputSession) (X : List Transcript) → AreStatements input X → (i : ℕ) (s : InputSession) (x : Transcript) → At input i s → At X i x → StatementsInOrder s x
+pub statements_at : (input : List InputSession) (X : List Transcript) → AreStatements input X → (i : ℕ) (s : InputSession) (x : Transcript) → At input i s → At X i x → StatementsInOrder s x
 statements_at [] X h i s x a b = absurd a
 statements_at (t ∷ input) [] h i s x a b = absurd b
 statements_at (t ∷ input) (y ∷ X) h zero s x a b = subst (λ (z : Transcript). StatementsInOrder s z) b (subst (λ (z : InputSession). StatementsInOrder z y) a h.0)
 statements_at (t ∷ input) (y ∷ X) h (suc i) s x a b = statements_at input X h.1 i s x a b
 
-are_statements : (input : List InputSession) (X : List Transcript) → length input ≡ length X → ((i : ℕ) (s : InputSession) (x : Transcript) → At input i s → At X i x → StatementsInOrder s x) → AreStatements input X
+pub are_statements : (input : List InputSession) (X : List Transcript) → length input ≡ length X → ((i : ℕ) (s : InputSession) (x : Transcript) → At input i s → At X i x → StatementsInOrder s x) → AreStatements input X
 are_statements [] [] l h = tt
 are_statements [] (x ∷ X) l h = absurd (omega (arith, l))
 are_statements (s ∷ input) [] l h = absurd (omega (arith, l))
@@ -91,12 +91,12 @@ are_statements (s ∷ input) (x ∷ X) l h = (h zero s x refl refl, are_statemen
 
 -- ---- setup
 
-record Moved (to : ℕ → ℕ) (setup : Option ℕ) (u : ℕ) : Type 0 where
-  was : ℕ
-  is : setup ≡ Some was
-  there : to was ≡ u
+pub record Moved (to : ℕ → ℕ) (setup : Option ℕ) (u : ℕ) : Type 0 where
+  pub was : ℕ
+  pub is : setup ≡ Some was
+  pub there : to was ≡ u
 
-was_moved : (to : ℕ → ℕ) (setup : Option ℕ) (u : ℕ) → moved to setup ≡ Some u → Moved to setup u
+pub was_moved : (to : ℕ → ℕ) (setup : Option ℕ) (u : ℕ) → moved to setup ≡ Some u → Moved to setup u
 was_moved to None u e = cc
 was_moved to (Some w) u e = record { was = w; is = refl; there = cc }
 
@@ -193,11 +193,11 @@ pub each_is_placed : (input : List InputSession) (X : List Transcript) (then_inp
 each_is_placed input X _ _ _ as_is u x a = a
 each_is_placed input X _ _ _ (swaps n {then_input} {then_X} {to} r short) u x a = at_then n then_X (to u) x short (each_is_placed input X then_input then_X to r u x a)
 
-moved_none : (setup : Option ℕ) → moved (λ i. i) setup ≡ setup
+pub moved_none : (setup : Option ℕ) → moved (λ i. i) setup ≡ setup
 moved_none None = refl
 moved_none (Some u) = refl
 
-moved_twice : (f g : ℕ → ℕ) (setup : Option ℕ) → moved g (moved f setup) ≡ moved (λ i. g (f i)) setup
+pub moved_twice : (f g : ℕ → ℕ) (setup : Option ℕ) → moved g (moved f setup) ≡ moved (λ i. g (f i)) setup
 moved_twice f g None = refl
 moved_twice f g (Some u) = refl
 

@@ -129,7 +129,7 @@ module _ (v : Server) (history : History) (cells : List Cell) (seats : List Seat
     pub number : At (s.transcripts_agree.of_seat (s.transcripts_agree.owner n)).past place n
     pub wrote : WroteAt seats (s.transcripts_agree.owner n) place (transcript_of (at n))
 
-  is_done : (n : ℕ) → n < count → IsDone n
+  pub is_done : (n : ℕ) → n < count → IsDone n
   is_done n l = let w = s.transcripts_agree.all n l in let j = s.transcripts_agree.owner n in let agree = (s.transcripts_agree.agree j w.0 w.1).sessions in
       let m : Numbers = s.transcripts_agree.of_seat j in
       let none : m.now ≡ None = rests_none v.meaning history m.now w.0.role (rest j w.0 w.1) agree.now in
@@ -156,7 +156,7 @@ module _ (v : Server) (history : History) (cells : List Cell) (seats : List Seat
   }
 
   -- two sessions are at two places
-  apart_at : (m n : ℕ) → m ≢ n → (a : IsDone m) (b : IsDone n) → s.transcripts_agree.owner m ≡ s.transcripts_agree.owner n → a.place ≢ b.place
+  pub apart_at : (m n : ℕ) → m ≢ n → (a : IsDone m) (b : IsDone n) → s.transcripts_agree.owner m ≡ s.transcripts_agree.owner n → a.place ≢ b.place
   apart_at m n ne a b seat place = ne (one_there (s.transcripts_agree.of_seat (s.transcripts_agree.owner n)).past b.place m n
       (subst (λ (k : ℕ). At (s.transcripts_agree.of_seat k).past b.place m) seat (subst (λ (i : ℕ). At (s.transcripts_agree.of_seat (s.transcripts_agree.owner m)).past i m) place a.number)) b.number)
 

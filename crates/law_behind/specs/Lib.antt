@@ -1,0 +1,4 @@
+pub mod AgreeBehind
+pub mod Forgotten
+pub mod OrderBehind
+pub mod Past

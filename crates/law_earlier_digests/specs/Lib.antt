@@ -1,0 +1,2 @@
+pub mod Earlier
+pub use Rattle.law_accepts.specs.Held

@@ -1,0 +1,5 @@
+mod Begun
+mod Reorders
+mod SetupFirst
+mod TheEnd
+mod Whose
