@@ -6,6 +6,7 @@ ghost use Rattle.base_board.specs.Stands.{vacated, seat_view, FitsCell, StandTog
 
 use crate::rule::{CellTable, GiveStep, JoinStep, SplitCount, SplitStep, TableSeat, TakeStep};
 use crate::world::{AfterVisit, World};
+use std::hint;
 
 // What a word says of its cell: it is at home, it is out, or it is out and a thread may wait for it.
 // The third keeps a give from asking the system to wake somebody where nobody waits.
@@ -14,6 +15,9 @@ const HOME: u64 = 0;
 const OUT: u64 = 1;
 
 pub(crate) const AWAITED: u64 = 2;
+
+// How often a thread looks for a cell that is out before it sleeps. Most visits are shorter than it takes to be woken.
+const LOOKS: u32 = 200;
 
 // Moves the cell out of the slot that was just taken.
 fn empty_slot<W: World>(table: &CellTable<W>, token: &mut TableSeat<W>, i: usize) -> W::Cell
@@ -51,6 +55,32 @@ pub(crate) fn try_take<W: World>(
         return None;
     }
     Some(empty_slot(table, token, i))
+}
+
+// The same, where it is out with some looks more. The processor isn't given up meanwhile.
+pub(crate) fn try_take_soon<W: World>(
+    table: &CellTable<W>,
+    token: &mut TableSeat<W>,
+    i: usize,
+) -> Option<W::Cell>
+    requires table { FitsCell token.old.table_id table.now.shared.table_id i }
+    requires order { AllBelow i token.old.me.0.out }
+    requires part { 0 < token.old.me.0.parts }
+    requires carried { token.old.me.1 ≡ vacated token.old.me.0.out }
+    ensures table { token.new.table_id ≡ token.old.table_id }
+    ensures taken { IfSome result (λ c.
+        (token.new.me.0 ≡ seat_view token.old.me.0.state token.old.me.0.parts ((i, c) ∷ token.old.me.0.out))
+        × StandTogether W.stand table.now.shared.table_id.slots token.new.me.0.state token.new.me.0.out) }
+    ensures missed { IfNone result (token.new.me ≡ token.old.me) }
+    ensures carried { token.new.me.1 ≡ vacated token.new.me.0.out }
+{
+    for _ in 0..LOOKS {
+        if let Some(cell) = try_take(table, token, i) {
+            return Some(cell);
+        }
+        hint::spin_loop();
+    }
+    None
 }
 
 // The same, and where the cell is out its word says from then on that a thread waits for it.

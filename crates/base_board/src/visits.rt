@@ -7,7 +7,7 @@ ghost use Rattle.base_board.specs.Boards.{board_cells, seat_state, seat_parts, s
 ghost use Rattle.base_board.specs.Stands.{StandTogether};
 
 use crate::board::{Board, BoardSeat, HeldCell};
-use crate::steps::{AWAITED, give_back, try_take, try_take_or_mark};
+use crate::steps::{AWAITED, give_back, try_take_or_mark, try_take_soon};
 use crate::world::{AfterVisit, World};
 use std::sync::Wait;
 
@@ -37,7 +37,7 @@ impl<W: World> Board<W> {
         ensures stand { StandTogether W.stand (board_cells self.now)
             (seat_state seat.new) (seat_out seat.new) }
     {
-        if let Some(cell) = try_take(&self.table, &mut seat.token, i) {
+        if let Some(cell) = try_take_soon(&self.table, &mut seat.token, i) {
             return HeldCell { cell };
         }
         for _ in rt.forever() {
