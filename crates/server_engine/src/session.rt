@@ -107,11 +107,12 @@ impl<H: Hash32> Session<H> {
         ensures { result ≡ end_with self }
     {
         let Session {
-            seat: _,
+            seat,
             entries,
             last: _,
             images,
         } = self;
+        seat.let_go();
         SessionEnd { entries, images }
     }
 

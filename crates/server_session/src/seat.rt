@@ -121,6 +121,10 @@ impl<H: Hash32> Seat<H> {
         self.running = None;
         self.point = ControlPoint::Over;
     }
+
+    /// Lets the seat go. A crate that drops one has to prove how each value that it may hold is dropped, so those
+    /// above call this.
+    pub fn let_go(self) {}
 }
 
 // Where a session stands that comes to its end; with true, its transaction is open.
