@@ -27,4 +27,5 @@ pub mod TableRoots
 pub mod Tables
 pub mod VerdictParts
 pub mod WorstParts
+pub mod Woven
 pub mod WrongRoots
