@@ -1,7 +1,9 @@
 //! Seats, which are sessions as their threads have them, and what they do alone between visits of cells.
 #![tactic(auto)]
 
+mod answer;
 mod going_on;
+mod lacking;
 mod need;
 mod needing;
 mod rest;
@@ -13,10 +15,11 @@ mod stage;
 mod starting;
 mod visited;
 
+pub use answer::{Answer, Answered, LastAnswer};
 pub use need::NextVisit;
 pub use needing::{CATALOG, LEDGER, cell_of, not_catalog};
 pub use running::Running;
-pub use seat::{Answer, Seat};
+pub use seat::Seat;
 pub use served_cell::ServedCell;
 pub use sql_types::EndLine;
 pub use stage::{Answering, ControlPoint, Stage};

@@ -39,53 +39,10 @@ use Rattle.server_session.specs.declared.stage.ControlPoint.TheVariants.{Between
 use Rattle.server_session.specs.declared.stage.Stage.{Stage}
 use Rattle.server_session.specs.declared.stage.Stage.TheVariants.{Begun, AssigningId, Committing, RollingBack, Issuing, Keeping, Looking, Found, Made, LacksIndex, GoingBack, Replied, GivingBack, Answering as Answered}
 use Rattle.server_session.proofs.Alone.{then_seat, holds_at_point, lacking}
-use Rattle.server_session.proofs.Sitting.{stmt_found, in_statement, lacks_so, plain_anonymous_acts}
-
--- ---- who needs all cells
-
-not_all_cell : (o : Option ℕ) → cell_or_done o ≡ need.All → ⊥
-not_all_cell None e = absurd cc
-not_all_cell (Some i) e = absurd cc
-
-not_all_end : (b : Bool) (end : Option EndLine) (left : List ℕ) → end_need b end left ≡ need.All → ⊥
-not_all_end true None left e = absurd cc
-not_all_end false None left e = absurd cc
-not_all_end true (Some line) left e = not_all_cell (slice_get left 0) e
-not_all_end false (Some line) left e = not_all_cell (slice_get left 0) e
-
-not_all_answer : {H : Type 0} (r : Option (Running H)) → answer_need r ≡ need.All → ⊥
-not_all_answer None e = absurd cc
-not_all_answer (Some r) e = not_all_end r.explicit r.end r.visited.left e
-
-keeping_stage : {H : Type 0} (stage : Stage) (r : Option (Running H)) → stage_need stage r ≡ need.All → Inside stage ≡ Inside Keeping
-keeping_stage Begun r e = absurd cc
-keeping_stage (AssigningId explicit) r e = absurd cc
-keeping_stage Committing r e = absurd cc
-keeping_stage RollingBack r e = absurd cc
-keeping_stage Issuing r e = absurd cc
-keeping_stage Keeping r e = refl
-keeping_stage Looking r e = absurd cc
-keeping_stage (Found def part fresh) r e = absurd cc
-keeping_stage (Made def true) r e = absurd cc
-keeping_stage (Made def false) r e = absurd cc
-keeping_stage (LacksIndex def) r e = absurd cc
-keeping_stage (GoingBack seq passed) r e = absurd (not_all_cell (back_need r passed) e)
-keeping_stage (Replied reply) r e = absurd cc
-keeping_stage (GivingBack refusal) r e = absurd cc
-keeping_stage (Answered a) r e = absurd (not_all_answer r e)
-
-keeping_point : {H : Type 0} (p : ControlPoint) (r : Option (Running H)) → point_need p r ≡ need.All → p ≡ Inside Keeping
-keeping_point Between r e = absurd cc
-keeping_point (Inside stage) r e = keeping_stage stage r e
-keeping_point Leaving None e = absurd cc
-keeping_point Leaving (Some r) e = absurd (not_all_end false r.end r.visited.left e)
-keeping_point Over r e = absurd cc
+use Rattle.server_session.proofs.Keeping.{keeping_point, lacks_alone, no_running}
+use Rattle.server_session.proofs.Sitting.{stmt_found, in_statement, plain_anonymous_acts}
 
 -- ---- its seat
-
-no_running : {H : Type 0} (digest : H → List ℕ → List ℕ) (h : H) (r : Option (Running H)) → Runs digest h r None → r ≡ None
-no_running digest h None k = refl
-no_running digest h (Some r) k = absurd k
 
 module _ {H : Type 0} (digest : H → List ℕ → List ℕ) (y : Seat H) (all : List KeptCell) (a : AmongAll digest y all) where
   pub at_keeping : y.point ≡ Inside Keeping
@@ -136,14 +93,10 @@ keeps_none {H} digest y z all alone a = let p : Steps digest a.h a.v a.s [] z = 
   adds = p.adds;
 }
 
-open_none : (q : Option OpenTransaction) → q ≡ None → IsUnfixed q
-open_none q e = subst IsUnfixed (sym e) tt
-
 pub lacks_image : {H : Type 0} (digest : H → List ℕ → List ℕ) (y : Seat H) (all : List KeptCell) → AmongAll digest y all
     → VisitsAll digest y all None (then_seat y y.started y.text y.stmt y.running (Inside (Answered lacking)))
 lacks_image digest y all a = keeps_none digest y (then_seat y y.started y.text y.stmt y.running (Inside (Answered lacking))) all
-    (lacks_so digest y Keeping (at_keeping digest y all a) refl refl
-    (λ h s w. open_none w.x.open_one ((holds_at_point digest h y s w (Inside Keeping) (at_keeping digest y all a)).0)))
+    (lacks_alone digest y a.needs)
 
 -- ---- an image is kept
 
