@@ -1,4 +1,5 @@
-// The words behind a command, as clap reads them.
+// The words behind a command, as clap reads them. Each argument is made where it is added: one that was made before
+// would have to be let go on each path on which memory is wanting, part by part.
 ghost use Rattle.std.specs.Prelude.{◌≡◌, [], IfOk, map, drop, true, false, string_bytes};
 ghost use Rattle.clap.specs.Words.{app_of, is_simple_and_free};
 ghost use Rattle.cli_words.specs.Line.{uses_of};
@@ -17,133 +18,107 @@ fn running_command<'a>(alloc: Global, name: &'a str) -> Result<Command<'a>, Allo
     ensures { IfOk result (λ c. app_of c
         ≡ app_with name.now (operands_of Subcommand.Step) (options_of Subcommand.Step)) }
 {
-    let save = Arg::new(alloc, "save").long("save");
-    let block_size = Arg::new(alloc, "block-size").long("block-size");
-    let clock = Arg::new(alloc, "clock").long("clock");
-    let database = Arg::new(alloc, "database").long("database");
     Command::new(alloc, name)
         .disable_help_flag(true)
-        .arg(save)?
-        .arg(block_size)?
-        .arg(clock)?
-        .arg(database)
+        .arg(Arg::new(alloc, "save").long("save"))?
+        .arg(Arg::new(alloc, "block-size").long("block-size"))?
+        .arg(Arg::new(alloc, "clock").long("clock"))?
+        .arg(Arg::new(alloc, "database").long("database"))
 }
 
 fn verify_command<'a>(alloc: Global) -> Result<Command<'a>, AllocError>
     ensures { IfOk result (λ c. app_of c ≡ app_for Subcommand.Verify) }
 {
-    let image = Arg::new(alloc, "IMAGE");
-    let digests = Arg::new(alloc, "DIGESTS");
-    let workers = Arg::new(alloc, "workers").long("workers");
     Command::new(alloc, "verify")
         .disable_help_flag(true)
-        .arg(image)?
-        .arg(digests)?
-        .arg(workers)
+        .arg(Arg::new(alloc, "IMAGE"))?
+        .arg(Arg::new(alloc, "DIGESTS"))?
+        .arg(Arg::new(alloc, "workers").long("workers"))
 }
 
 fn extract_command<'a>(alloc: Global) -> Result<Command<'a>, AllocError>
     ensures { IfOk result (λ c. app_of c ≡ app_for Subcommand.Extract) }
 {
-    let honest = Arg::new(alloc, "HONEST");
-    let suspect = Arg::new(alloc, "SUSPECT");
-    let digests = Arg::new(alloc, "DIGESTS");
     Command::new(alloc, "extract")
         .disable_help_flag(true)
-        .arg(honest)?
-        .arg(suspect)?
-        .arg(digests)
+        .arg(Arg::new(alloc, "HONEST"))?
+        .arg(Arg::new(alloc, "SUSPECT"))?
+        .arg(Arg::new(alloc, "DIGESTS"))
 }
 
 fn replay_command<'a>(alloc: Global) -> Result<Command<'a>, AllocError>
     ensures { IfOk result (λ c. app_of c ≡ app_for Subcommand.Replay) }
 {
-    let journal = Arg::new(alloc, "JOURNAL");
-    let save = Arg::new(alloc, "save").long("save");
     Command::new(alloc, "replay")
         .disable_help_flag(true)
-        .arg(journal)?
-        .arg(save)
+        .arg(Arg::new(alloc, "JOURNAL"))?
+        .arg(Arg::new(alloc, "save").long("save"))
 }
 
 fn upgrade_command<'a>(alloc: Global) -> Result<Command<'a>, AllocError>
     ensures { IfOk result (λ c. app_of c ≡ app_for Subcommand.Upgrade) }
 {
-    let image = Arg::new(alloc, "IMAGE");
-    let save = Arg::new(alloc, "save").long("save");
     Command::new(alloc, "upgrade")
         .disable_help_flag(true)
-        .arg(image)?
-        .arg(save)
+        .arg(Arg::new(alloc, "IMAGE"))?
+        .arg(Arg::new(alloc, "save").long("save"))
 }
 
 fn gen_command<'a>(alloc: Global) -> Result<Command<'a>, AllocError>
     ensures { IfOk result (λ c. app_of c ≡ app_for Subcommand.Gen) }
 {
-    let count = Arg::new(alloc, "COUNT");
     Command::new(alloc, "gen")
         .disable_help_flag(true)
-        .arg(count)
+        .arg(Arg::new(alloc, "COUNT"))
 }
 
 fn receipt_operands<'a>(alloc: Global) -> Result<Command<'a>, AllocError>
     ensures { IfOk result (λ c. app_of c ≡ app_with (name_of Subcommand.Receipt) (operands_of Subcommand.Receipt) []) }
 {
-    let image = Arg::new(alloc, "IMAGE");
-    let digests = Arg::new(alloc, "DIGESTS");
-    let tx = Arg::new(alloc, "TX");
     Command::new(alloc, "receipt")
         .disable_help_flag(true)
-        .arg(image)?
-        .arg(digests)?
-        .arg(tx)
+        .arg(Arg::new(alloc, "IMAGE"))?
+        .arg(Arg::new(alloc, "DIGESTS"))?
+        .arg(Arg::new(alloc, "TX"))
 }
 
 fn receipt_command<'a>(alloc: Global) -> Result<Command<'a>, AllocError>
     ensures { IfOk result (λ c. app_of c ≡ app_for Subcommand.Receipt) }
 {
-    let save = Arg::new(alloc, "save").long("save");
-    let table = Arg::new(alloc, "table").long("table");
-    let event = Arg::new(alloc, "event").long("event");
     let command = receipt_operands(alloc)?;
-    command.arg(save)?.arg(table)?.arg(event)
+    command
+        .arg(Arg::new(alloc, "save").long("save"))?
+        .arg(Arg::new(alloc, "table").long("table"))?
+        .arg(Arg::new(alloc, "event").long("event"))
 }
 
 fn join_command<'a>(alloc: Global) -> Result<Command<'a>, AllocError>
     ensures { IfOk result (λ c. app_of c ≡ app_for Subcommand.Join) }
 {
-    let image = Arg::new(alloc, "IMAGE");
-    let digests = Arg::new(alloc, "DIGESTS");
-    let save = Arg::new(alloc, "save").long("save");
     Command::new(alloc, "join")
         .disable_help_flag(true)
-        .arg(image)?
-        .arg(digests)?
-        .arg(save)
+        .arg(Arg::new(alloc, "IMAGE"))?
+        .arg(Arg::new(alloc, "DIGESTS"))?
+        .arg(Arg::new(alloc, "save").long("save"))
 }
 
 fn check_command<'a>(alloc: Global) -> Result<Command<'a>, AllocError>
     ensures { IfOk result (λ c. app_of c ≡ app_for Subcommand.Check) }
 {
-    let receipt = Arg::new(alloc, "RECEIPT");
-    let digests = Arg::new(alloc, "DIGESTS");
     Command::new(alloc, "check")
         .disable_help_flag(true)
-        .arg(receipt)?
-        .arg(digests)
+        .arg(Arg::new(alloc, "RECEIPT"))?
+        .arg(Arg::new(alloc, "DIGESTS"))
 }
 
 fn asof_command<'a>(alloc: Global) -> Result<Command<'a>, AllocError>
     ensures { IfOk result (λ c. app_of c ≡ app_for Subcommand.AsOf) }
 {
-    let image = Arg::new(alloc, "IMAGE");
-    let n = Arg::new(alloc, "N");
-    let digests = Arg::new(alloc, "digests").long("digests");
     Command::new(alloc, "asof")
         .disable_help_flag(true)
-        .arg(image)?
-        .arg(n)?
-        .arg(digests)
+        .arg(Arg::new(alloc, "IMAGE"))?
+        .arg(Arg::new(alloc, "N"))?
+        .arg(Arg::new(alloc, "digests").long("digests"))
 }
 
 /// The command that clap reads. Help is none of its words, so that it never prints.

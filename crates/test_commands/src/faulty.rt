@@ -1,9 +1,9 @@
 //! Commands over an outside in memory whose calls fail as they are told to.
 
+use crate::call::run_command;
 use crate::machine::Machine;
 use crate::setting::{CommandSetup, Faults};
-use base_io::{FixedClock, FolderVault, MemSink, MemSource, MemVault, OpenGate, Vault, VaultErr};
-use cli_commands::ledgerd;
+use base_io::{FolderVault, MemSink, MemSource, MemVault, Vault, VaultErr};
 use std::io;
 
 /// More than a file of the stored run has.
@@ -42,17 +42,7 @@ pub fn run_over_memory(
     let mut source = MemSource::new(setting.input, 77, faults.source);
     let mut sink = MemSink::new(alloc, faults.piece, faults.sink);
     let mut vault = vault_of(rt, faults.vault, &faults.names);
-    let clock = FixedClock { at: setting.clock };
-    let status = ledgerd(
-        rt,
-        alloc,
-        words,
-        &mut source,
-        &mut sink,
-        &mut vault,
-        &clock,
-        &OpenGate,
-    );
+    let status = run_command(rt, words, &mut source, &mut sink, &mut vault, setting.clock);
     let written = std::str::from_utf8(sink.bytes()).unwrap_or("");
     println!(rt; "wrote {written:?}")?;
     println!(rt; "{} {status}", status.code())?;

@@ -19,30 +19,23 @@
 //! are put before, each a call of the vault.
 #![tactic(auto)]
 
+mod call;
 mod damage;
 mod faulty;
 mod files;
 mod machine;
 mod setting;
 
+use crate::call::{run_command, words_of};
 use crate::damage::count_damages;
 use crate::faulty::run_over_memory;
 use crate::files::{are_same, bytes_under, count_cuts, patch, print_hex};
 use crate::machine::Machine;
 use crate::setting::CommandSetup;
-use base_io::{FixedClock, FolderVault, MemSource, OpenGate, StdoutSink};
-use cli_commands::{Status, ledgerd};
+use base_io::{FolderVault, MemSource, StdoutSink};
+use cli_commands::Status;
 use std::alloc::{AllocError, Global};
 use std::{io, mem};
-
-/// The words of a line.
-fn words_of(alloc: Global, line: &str) -> Result<Vec<String>, AllocError> {
-    let mut words = Vec::new(alloc);
-    for word in line.split(' ') {
-        words.push(String::from_str(alloc, word)?)?;
-    }
-    Ok(words)
-}
 
 /// Runs a command over the folder.
 fn run_over_folder(rt: &impl Machine, setting: CommandSetup, words: &[String]) -> Status {
@@ -50,17 +43,7 @@ fn run_over_folder(rt: &impl Machine, setting: CommandSetup, words: &[String]) -
     let mut source = MemSource::new(setting.input, 4096, Vec::new(alloc));
     let mut sink = StdoutSink::new(io::writer(rt));
     let mut vault = FolderVault::new(*rt);
-    let clock = FixedClock { at: setting.clock };
-    ledgerd(
-        rt,
-        alloc,
-        words,
-        &mut source,
-        &mut sink,
-        &mut vault,
-        &clock,
-        &OpenGate,
-    )
+    run_command(rt, words, &mut source, &mut sink, &mut vault, setting.clock)
 }
 
 fn print_status(rt: &impl Machine, status: Status) -> io::Result<()> {
