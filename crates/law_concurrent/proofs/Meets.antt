@@ -1,26 +1,23 @@
 -- What was written at the seat that is left agrees.
-use Rattle.std.proofs.Common.{◌≡◌, ◌⊎◌, ℕ, true, List, [], ◌∷◌, length, map, flat_map, Option, Some, refl, sym, ap, subst, ◌∙◌, inl, inr, ⊎_elim, arith}
+use Rattle.std.proofs.Common.{◌≡◌, ◌⊎◌, ℕ, zero, suc, true, List, [], ◌∷◌, ◌++◌, drop, length, map, flat_map, Option, Some, refl, sym, ap, subst, ◌∙◌, inl, inr, ⊎_elim, arith}
 use mathlib.Core.Logic.{dite}
 use mathlib.Core.Option.{some, some-injective}
 use native.Mathlib.Decide.{ℕ_discrete}
 use lib.ListN.{get_elem?, length-map}
 use Rattle.base_types.specs.Moment.{is_moment}
 use Rattle.base_types.specs.SessionName.{is_session_name}
-use Rattle.spec_history.specs.Acts.{Act}
-use Rattle.spec_history.specs.Agree.{Agree}
-use Rattle.spec_history.specs.Guards.{Good}
-use Rattle.spec_history.specs.Histories.{IsWhole, SetupRan}
+use Rattle.sql_types.specs.declared.digest.Digest.{Digest}
+use Rattle.sql_types.specs.declared.journal.JournalItem.{JournalItem}
+use Rattle.spec_history.specs.Histories.{SetupRan}
 use Rattle.spec_history.specs.Inputs.{InputSession}
 use Rattle.spec_history.specs.Journals.{times}
 use Rattle.spec_history.specs.Lists.{Text, Each, Some_of, At, In}
 use Rattle.spec_history.specs.Meaning.{Meaning}
 use Rattle.spec_history.specs.Transcripts.{Transcript}
-use Rattle.spec_history.specs.Worlds.{first, run}
-use Rattle.law_order.specs.OneOrder.{HaveOneOrder}
-use Rattle.spec_protocol.specs.AtTheEnd.{AllRest, AreWritten, HasItsImages, NamesDiffer, SessionsDiffer, WasKnown, WroteAt}
+use Rattle.spec_protocol.specs.AtTheEnd.{AllRest, HasItsImages, NamesDiffer, SessionsDiffer, WasKnown, WroteAt}
 use Rattle.spec_protocol.specs.Cells.{Cell, Ledger, LedgerCell, ledger_at}
 use Rattle.spec_protocol.specs.JournalForms.{HaveForms}
-use Rattle.spec_protocol.specs.Reordered.{InOrderOf, IsSessionOrder, NamesApart}
+use Rattle.spec_protocol.specs.Reordered.{InOrderOf, IsSessionOrder, NamesApart, Reordered, moved}
 use Rattle.spec_protocol.specs.SeatNames.{names_of, session_names}
 use Rattle.spec_protocol.specs.Seats.{IsAtRest, Role, session, SeatState, Written, nobody}
 use Rattle.spec_protocol.specs.Server.{Server}
@@ -29,11 +26,19 @@ use Rattle.spec_protocol.specs.TranscriptsAgree.{IsMoment, moments_of, session_m
 use Rattle.law_kept_images.proofs.JournalKept.{legal_journal}
 use Rattle.law_kept_images.proofs.KeptImages.{have_images}
 use Rattle.law_kept_images.proofs.InSessionOrder.{in_order_of}
-use Rattle.law_kept_images.proofs.RanFirst.{ran_first}
-use Rattle.law_kept_images.proofs.Reorders.{reordered_agrees, sessions_long}
-use Rattle.law_kept_images.proofs.TheEnd as the_end
+use Rattle.law_kept_images.proofs.Reorders.{sessions_long}
 use Rattle.law_kept_images.specs.Wrote.{transcripts_in}
 use Rattle.law_kept_images.proofs.SameNames.{differ, same_list}
+use Rattle.law_behind.specs.AgreeBehind.{AgreeBehind}
+use Rattle.law_behind.specs.Forgotten.{without}
+use Rattle.law_behind.specs.OrderBehind.{HaveOneOrderBehind}
+use Rattle.law_behind.specs.Past.{Past}
+use Rattle.law_continued.specs.Start.{Start}
+use Rattle.law_going_on.specs.EndBehind.{AreWrittenBehind}
+use Rattle.law_moments.specs.AddedInTime.{AddedInTime}
+use Rattle.law_sequential.specs.RunStart.{RunStart}
+use Rattle.law_sequential.proofs.AtStart.{since_front}
+use Rattle.law_sequential.proofs.Over.{AgreesBehind}
 use Rattle.law_concurrent.specs.Joined.{IsJoined, KnewThatOver}
 use Rattle.law_concurrent.specs.Together.{AreFormed, IsMomentOf, RanTogether, names_in, session_in}
 use Rattle.law_concurrent.proofs.Orders.{of_same}
@@ -47,26 +52,35 @@ timeless : (r : Role) → IsAtRest r → session_moments r ≡ []
 timeless (session x) h = absurd h
 timeless r h = refl
 
--- the law that is used
-abbrev pub AreInOrder : Type 0
-AreInOrder = (q : Meaning) (database : Text) (history : List Act) (input : List InputSession) (setup : Option ℕ) (transcripts : List Transcript)
-    → Good q database first history → IsWhole input setup transcripts history → HaveOneOrder q setup transcripts (run first history).items
+-- the law that is used beside the one on the end
+abbrev pub AgreeInAnyOrder : Type 0
+AgreeInAnyOrder = (q : Meaning) (database : Text) (past : Past) (input : List InputSession) (setup : Option ℕ) (X : List Transcript) (J : List JournalItem) (G : List Digest)
+    → AgreeBehind q database past input setup X J G → (then_input : List InputSession) (then_X : List Transcript) (to : ℕ → ℕ) → Reordered input X then_input then_X to
+    → AgreeBehind q database past then_input (moved to setup) then_X J G
 
 same_ledger : (k l : LedgerCell) → Ledger k ≡ Ledger l → k ≡ l
 same_ledger k l e = cc
 
-module _ (are_in_order : AreInOrder) (v : Server) (cells : List Cell) (w : Written) (ws : List Written) (joined : IsJoined v cells (w ∷ ws)) (knew : KnewThatOver w ws) (apart : NamesApart (names_in (transcripts_in (w ∷ ws)))) where
+module _ (agrees_behind : AgreesBehind) (in_any_order : AgreeInAnyOrder) {v : Server} {database : Text} {size : ℕ} {past : Past} (start : RunStart v database size past)
+    (cells : List Cell) (w : Written) (ws : List Written) (joined : IsJoined start cells (w ∷ ws)) (knew : KnewThatOver w ws) (apart : NamesApart (names_in (transcripts_in (w ∷ ws)))) where
   abbrev written : List Written
   written = w ∷ ws
+
+  abbrev begins : Start v database size
+  begins = start.begins
 
   abbrev seats : List SeatState
   seats = joined.seats
 
-  abbrev history : History
-  history = joined.together.history
+  -- with that of the past
+  abbrev all_seats : List SeatState
+  all_seats = begins.seat ∷ seats
 
-  abbrev st : Stands v history cells seats
-  st = joined.together.stands
+  abbrev events : History
+  events = joined.events
+
+  abbrev st : Stands v (begins.history ++ events) cells all_seats
+  st = joined.stands
 
   abbrev T : List Transcript
   T = transcripts_in written
@@ -93,16 +107,16 @@ module _ (are_in_order : AreInOrder) (v : Server) (cells : List Cell) (w : Writt
   names_differ j k m n x y a b ne = let p = found j m x a in let q = found k n y b in differ T (names_in T) refl apart m n x y p.1 q.1 (ne (p.0 ∙ sym q.0))
 
   abbrev input : List InputSession
-  input = the_end.input v history cells seats st rests
+  input = (agrees_behind v database size begins events cells seats st rests).0
 
   abbrev X : List Transcript
-  X = the_end.X v history cells seats st rests
+  X = (agrees_behind v database size begins events cells seats st rests).1
 
-  are_written : AreWritten history seats input X
-  are_written = the_end.are_written v history cells seats st rests
+  are_written : AreWrittenBehind begins.count events seats input X
+  are_written = (agrees_behind v database size begins events cells seats st rests).2
 
-  then_agrees : SessionsDiffer X × ((setup : Option ℕ) → SetupRan setup history → Agree v.meaning st.ledger.database input setup X st.ledger.items st.ledger.issued)
-  then_agrees = the_end.agrees_then v history cells seats st rests names_differ
+  differs : SessionsDiffer X
+  differs = (agrees_behind v database size begins events cells seats st rests).3 names_differ
 
   -- ---- the same transcripts
 
@@ -117,7 +131,7 @@ module _ (are_in_order : AreInOrder) (v : Server) (cells : List Cell) (w : Writt
 
   as_many : length (names_in T) ≡ length X
   as_many = let a = no_longer (names_in T) (names_in X) apart (named_in T X is_theirs) in
-      let b = no_longer (names_in X) (names_in T) (apart_by_place X then_agrees.0) (named_in X T is_ours) in
+      let b = no_longer (names_in X) (names_in T) (apart_by_place X differs) (named_in X T is_ours) in
       let c : length (names_in X) ≡ length X = length-map X (λ x. x.session) in omega (arith, a, b, c)
 
   session_order : IsSessionOrder (names_in T) X
@@ -141,8 +155,8 @@ module _ (are_in_order : AreInOrder) (v : Server) (cells : List Cell) (w : Writt
   known k t e = of_each (λ (s : SeatState). Each IsKnown s.written)
       (subst (λ (us : List Written). Each IsKnown us) (sym joined.wrote) (inl refl, each_of (λ u. In w.transcript u.earlier) IsKnown (λ u i. inr i) ws knew)) tt k t e
 
-  ran : SetupRan (Some first_at.0) history
-  ran = ran_first v history cells seats st rests input X are_written then_agrees.0 first_at.0 w.transcript first_at.1 known
+  ran : SetupRan (Some first_at.0) (without begins.count events)
+  ran = (agrees_behind v database size begins events cells seats st rests).7 differs first_at.0 w.transcript first_at.1 known
 
   comes_first : o.to first_at.0 ≡ 0
   comes_first = dite (ℕ_discrete (o.to first_at.0) 0) (λ e. e) (λ ne. absurd (differ T (names_in T) refl apart (o.to first_at.0) 0 w.transcript w.transcript
@@ -150,34 +164,31 @@ module _ (are_in_order : AreInOrder) (v : Server) (cells : List Cell) (w : Writt
 
   -- ---- agreement
 
-  reordered : Agree v.meaning st.ledger.database o.then_input (Some (o.to first_at.0)) o.then_X st.ledger.items st.ledger.issued
-  reordered = reordered_agrees v.meaning st.ledger.database input (Some first_at.0) X st.ledger.items st.ledger.issued (then_agrees.1 (Some first_at.0) ran) o.then_input o.then_X o.to o.reordered
+  then_agrees : AgreeBehind v.meaning st.ledger.database past input (Some first_at.0) X st.ledger.items st.ledger.issued × HaveOneOrderBehind v.meaning past (Some first_at.0) X st.ledger.items
+  then_agrees = subst (λ (p : Past). AgreeBehind v.meaning st.ledger.database p input (Some first_at.0) X st.ledger.items st.ledger.issued × HaveOneOrderBehind v.meaning p (Some first_at.0) X st.ledger.items)
+      start.of_past ((agrees_behind v database size begins events cells seats st rests).5 differs (Some first_at.0) ran)
 
-  agree : Agree v.meaning st.ledger.database (map session_in T) (Some 0) T st.ledger.items st.ledger.issued
-  agree = subst (λ (n : ℕ). Agree v.meaning st.ledger.database (map session_in T) (Some n) T st.ledger.items st.ledger.issued) comes_first
-      (subst (λ (Y : List Transcript). Agree v.meaning st.ledger.database (map session_in Y) (Some (o.to first_at.0)) Y st.ledger.items st.ledger.issued) same
-      (subst (λ (i : List InputSession). Agree v.meaning st.ledger.database i (Some (o.to first_at.0)) o.then_X st.ledger.items st.ledger.issued)
+  reordered : AgreeBehind v.meaning st.ledger.database past o.then_input (Some (o.to first_at.0)) o.then_X st.ledger.items st.ledger.issued
+  reordered = in_any_order v.meaning st.ledger.database past input (Some first_at.0) X st.ledger.items st.ledger.issued then_agrees.0 o.then_input o.then_X o.to o.reordered
+
+  agree : AgreeBehind v.meaning st.ledger.database past (map session_in T) (Some 0) T st.ledger.items st.ledger.issued
+  agree = subst (λ (n : ℕ). AgreeBehind v.meaning st.ledger.database past (map session_in T) (Some n) T st.ledger.items st.ledger.issued) comes_first
+      (subst (λ (Y : List Transcript). AgreeBehind v.meaning st.ledger.database past (map session_in Y) (Some (o.to first_at.0)) Y st.ledger.items st.ledger.issued) same
+      (subst (λ (i : List InputSession). AgreeBehind v.meaning st.ledger.database past i (Some (o.to first_at.0)) o.then_X st.ledger.items st.ledger.issued)
       (inputs_are o.then_input o.then_X reordered.statements_are_answered) reordered))
 
   -- ---- one order
 
-  whole : IsWhole input (Some first_at.0) X history
-  whole = record {
-    sessions = are_written.sessions;
-    all = the_end.below (length X) history (λ n l. (are_written.no_others n l).1);
-    names_differ = then_agrees.0;
-    setup_ran = ran;
+  in_order : HaveOneOrderBehind v.meaning past (Some 0) T st.ledger.items
+  in_order = let found_order = then_agrees.1 in record {
+    order = found_order.order;
+    is = of_same v.meaning past X st.ledger.items found_order.order first_at.0 w.transcript (transcripts_in ws) first_at.1 is_ours is_theirs found_order.is;
   }
-
-  in_order : HaveOneOrder v.meaning (Some 0) T st.ledger.items
-  in_order = let o = are_in_order v.meaning st.ledger.database history input (Some first_at.0) X st.transcripts_agree.good whole in
-      subst (HaveOneOrder v.meaning (Some 0) T) st.transcripts_agree.items
-      (record { order = o.order; is = of_same v.meaning X (run first history).items o.order first_at.0 w.transcript (transcripts_in ws) first_at.1 is_ours is_theirs o.is })
 
   -- ---- images, moments, forms
 
   images : Each (HasItsImages v st.ledger) written
-  images = subst (λ (us : List Written). Each (HasItsImages v st.ledger) us) joined.wrote (have_images v history cells seats st joined.j joined.s joined.there)
+  images = subst (λ (us : List Written). Each (HasItsImages v st.ledger) us) joined.wrote (have_images v (begins.history ++ events) cells all_seats st (suc joined.j) joined.s joined.there)
 
   moment_is : (time : ℕ) → IsMoment seats time → IsMomentOf written time
   moment_is time m = of_each (λ (t : SeatState). In time (moments_of t) → IsMomentOf written time)
@@ -186,32 +197,45 @@ module _ (are_in_order : AreInOrder) (v : Server) (cells : List Cell) (w : Writt
       (in_either time (flat_map (λ u. u.moments) joined.s.written) (session_moments joined.s.role) i))
       (λ i. absurd i) m.j m.seat m.there m.is
 
-  forms : AreFormed st.ledger written → HaveForms st.ledger seats
-  forms f = record {
-    database = f.database;
-    ids = f.ids;
-    names = λ k t e. of_each (λ (u : SeatState). Each (λ name. is_session_name name ≡ true) (names_of u))
-        (each_both (λ name. is_session_name name ≡ true) (map (λ u. u.transcript.session) joined.s.written) (session_names joined.s.role)
-        (each_map (λ (u : Written). u.transcript.session) (λ name. is_session_name name ≡ true) joined.s.written (subst (λ (us : List Written). Each (λ u. is_session_name u.transcript.session ≡ true) us) (sym joined.wrote) f.names))
-        (subst (λ (ns : List Text). Each (λ name. is_session_name name ≡ true) ns) (sym (nameless joined.s.role joined.rests)) tt))
-        tt k t e;
-    moments = λ k t e. of_each (λ (u : SeatState). Each (λ time. is_moment time ≡ true) (moments_of u))
-        (each_both (λ time. is_moment time ≡ true) (flat_map (λ u. u.moments) joined.s.written) (session_moments joined.s.role)
-        (each_flat (λ (u : Written). u.moments) (λ time. is_moment time ≡ true) joined.s.written (subst (λ (us : List Written). Each (λ u. Each (λ time. is_moment time ≡ true) u.moments) us) (sym joined.wrote) f.moments))
-        (subst (λ (ts : List ℕ). Each (λ time. is_moment time ≡ true) ts) (sym (timeless joined.s.role joined.rests)) tt))
-        tt k t e;
-  }
+  abbrev IsName : Text → Type 0
+  IsName name = is_session_name name ≡ true
 
-  ran_together : RanTogether v written st.ledger
+  abbrev IsTime : ℕ → Type 0
+  IsTime time = is_moment time ≡ true
+
+  names_are : Each (λ u. IsName u.transcript.session) written → (k : ℕ) (t : SeatState) → get_elem? all_seats k ≡ some t → Each IsName (names_of t)
+  names_are named zero t e = subst (λ (u : SeatState). Each IsName (names_of u)) (some-injective begins.seat t e) start.names
+  names_are named (suc k) t e = of_each (λ (u : SeatState). Each IsName (names_of u))
+      (each_both IsName (map (λ u. u.transcript.session) joined.s.written) (session_names joined.s.role)
+      (each_map (λ (u : Written). u.transcript.session) IsName joined.s.written (subst (λ (us : List Written). Each (λ u. IsName u.transcript.session) us) (sym joined.wrote) named))
+      (subst (λ (ns : List Text). Each IsName ns) (sym (nameless joined.s.role joined.rests)) tt))
+      tt k t e
+
+  moments_are : Each (λ u. Each IsTime u.moments) written → (k : ℕ) (t : SeatState) → get_elem? all_seats k ≡ some t → Each IsTime (moments_of t)
+  moments_are timed zero t e = subst (λ (u : SeatState). Each IsTime (moments_of u)) (some-injective begins.seat t e) start.moments
+  moments_are timed (suc k) t e = of_each (λ (u : SeatState). Each IsTime (moments_of u))
+      (each_both IsTime (flat_map (λ u. u.moments) joined.s.written) (session_moments joined.s.role)
+      (each_flat (λ (u : Written). u.moments) IsTime joined.s.written (subst (λ (us : List Written). Each (λ u. Each IsTime u.moments) us) (sym joined.wrote) timed))
+      (subst (λ (ts : List ℕ). Each IsTime ts) (sym (timeless joined.s.role joined.rests)) tt))
+      tt k t e
+
+  forms : AreFormed st.ledger written → HaveForms st.ledger all_seats
+  forms f = record { database = f.database; ids = f.ids; names = names_are f.names; moments = moments_are f.moments }
+
+  added : AddedInTime past.items seats st.ledger
+  added = joined.added st.ledger st.are_cells.has_ledger
+
+  ran_together : RanTogether v past written st.ledger
   ran_together = record {
     agree = agree;
     in_order = in_order;
     images = images;
-    times = each_of (IsMoment seats) (IsMomentOf written) moment_is (times st.ledger.items) st.transcripts_agree.times;
-    made = each_of (λ d. IsMoment seats d.made) (λ d. IsMomentOf written d.made) (λ d m. moment_is d.made m) st.ledger.issued st.transcripts_agree.made;
+    times = subst (λ (is : List JournalItem). Each (IsMomentOf written) (times is)) (sym (since_front past.items added.added) ∙ ap (drop (length past.items)) (sym added.are))
+        (each_of (IsMoment seats) (IsMomentOf written) moment_is (times added.added) added.times);
+    made = each_of (λ d. IsMoment seats d.made) (λ d. IsMomentOf written d.made) (λ d m. moment_is d.made m) st.ledger.issued added.made;
     closings = st.ledger_is_legal.closings;
-    legal = λ f. legal_journal v history cells seats st (forms f);
+    legal = λ f. legal_journal v (begins.history ++ events) cells all_seats st (forms f);
   }
 
-  pub comes_to : (ledger : LedgerCell) → get_elem? cells ledger_at ≡ some (Ledger ledger) → RanTogether v written ledger
-  comes_to ledger e = subst (RanTogether v written) (same_ledger st.ledger ledger (some-injective (Ledger st.ledger) (Ledger ledger) (sym st.are_cells.has_ledger ∙ e))) ran_together
+  pub comes_to : (ledger : LedgerCell) → get_elem? cells ledger_at ≡ some (Ledger ledger) → RanTogether v past written ledger
+  comes_to ledger e = subst (RanTogether v past written) (same_ledger st.ledger ledger (some-injective (Ledger st.ledger) (Ledger ledger) (sym st.are_cells.has_ledger ∙ e))) ran_together

@@ -1,18 +1,25 @@
 -- Seats that were all joined into one.
-use Rattle.std.specs.Prelude.{ℕ, ◌≡◌, ◌≢◌, List}
+use Rattle.std.specs.Prelude.{ℕ, ◌≡◌, ◌≢◌, ◌++◌, List, ◌∷◌}
 use mathlib.Core.Option.{some}
 use lib.ListN.{get_elem?}
-use Rattle.spec_history.specs.Lists.{Each, In}
-use Rattle.spec_protocol.specs.Cells.{Cell}
+use Rattle.spec_history.specs.Lists.{Each, In, Text}
+use Rattle.spec_protocol.specs.Cells.{Cell, Ledger, LedgerCell, ledger_at}
 use Rattle.spec_protocol.specs.Seats.{IsAtRest, SeatState, Written, nobody}
 use Rattle.spec_protocol.specs.Server.{Server}
-use Rattle.spec_protocol.specs.StandTogether.{StandTogether}
+use Rattle.spec_protocol.specs.StandTogether.{History, Stands}
+use Rattle.law_behind.specs.Past.{Past}
+use Rattle.law_moments.specs.AddedInTime.{AddedInTime}
+use Rattle.law_sequential.specs.RunStart.{RunStart}
 
--- The cells stand together with seats of which one is left: no session runs there, and it wrote or took in
--- all these transcripts.
-pub record IsJoined (v : Server) (cells : List Cell) (written : List Written) : Type 0 where
+-- Since the start the cells came to stand together with the seat of the past and with seats of which one is left: no
+-- session runs there, and it wrote or took in all these transcripts.
+pub record IsJoined {v : Server} {database : Text} {size : ℕ} {past : Past}
+    (start : RunStart v database size past) (cells : List Cell) (written : List Written) : Type 0 where
+  pub events : History
   pub seats : List SeatState
-  pub together : StandTogether v cells seats
+  pub stands : Stands v (start.begins.history ++ events) cells (start.begins.seat ∷ seats)
+  -- all that is new in the journal has moments of these seats
+  pub added : (l : LedgerCell) → get_elem? cells ledger_at ≡ some (Ledger l) → AddedInTime past.items seats l
   pub j : ℕ
   pub s : SeatState
   pub there : get_elem? seats j ≡ some s

@@ -1,4 +1,5 @@
 pub mod CameTo
+pub mod CameToBehind
 pub mod InOrder
 pub mod Joined
 pub mod Threads

@@ -15,23 +15,27 @@ use Rattle.spec_protocol.specs.Reordered.{NamesApart}
 use Rattle.spec_protocol.specs.Seats.{Written}
 use Rattle.spec_protocol.specs.Server.{Server}
 use Rattle.spec_protocol.specs.Serves.{Serves}
+use Rattle.law_behind.specs.Past.{Past}
+use Rattle.law_sequential.specs.RunStart.{RunStart}
 use Rattle.law_kept_images.specs.Wrote.{transcripts_in}
 use Rattle.law_concurrent.specs.Joined.{IsJoined, KnewThatOver}
 pub use Rattle.law_concurrent.specs.Together.{session_in}
 use Rattle.law_concurrent.specs.CameTo.{RunResult}
 
--- On some server that reads by the grammar and hashes with h, one seat is left, which has all transcripts:
+-- On some server that reads by the grammar and hashes with h, one seat is left besides that of the past from which
+-- it went on, which has all transcripts:
 -- those of this input, `setup` first. What is left of the run is what it wrote and what the ledger's cell
 -- has.
-pub record HasJoined (h : List ℕ → List ℕ) (database : Text) (size : ℕ) (IsSaid : ℕ → Type 0)
+pub record HasJoined (h : List ℕ → List ℕ) (database : Text) (size : ℕ) (past : Past) (IsSaid : ℕ → Type 0)
     (input : List InputSession) (r : RunResult) : Type 0 where
   pub v : Server
   pub serves : Serves h statement_of v
+  pub start : RunStart v database size past
   pub cells : List Cell
   -- of `setup`, and of the sessions that began when it was known to be over
   pub first : Written
   pub others : List Written
-  pub joined : IsJoined v cells (first ∷ others)
+  pub joined : IsJoined start cells (first ∷ others)
   pub knew : KnewThatOver first others
   pub ledger : LedgerCell
   pub there : get_elem? cells ledger_at ≡ some (Ledger ledger)

@@ -1,19 +1,17 @@
 -- How a course goes on: with each step, with what it adds.
 use Rattle.std.proofs.Common.{◌≡◌, ◌≢◌, ℕ, zero, suc, ◌≤◌, ◌+◌, Bool, length, true, List, [], ◌∷◌, ◌++◌, map, slice_set, refl, sym, ap, ap₂, subst, subst₂, ◌∙◌, append-nil, append_assoc, arith}
 use Rattle.std.specs.Prelude.{◌==◌}
-use Rattle.std.proofs.lemmas.Bool.{ne_eqb}
 use mathlib.Core.Option.{some, none, some-injective}
 use lib.ListN.{get_elem?}
-use Rattle.spec_model.specs.Limits.{max_block}
 use Rattle.spec_history.specs.Acts.{SessionAct, starts, takes, answers, stops}
-use Rattle.spec_history.specs.Histories.{pending, full_or}
+use Rattle.spec_history.specs.Histories.{pending}
 use Rattle.spec_history.specs.Inputs.{InputLine}
 use Rattle.spec_history.specs.Lists.{Text, Each}
 use Rattle.spec_history.proofs.Trace.{each_append, each_weaker}
 use Rattle.spec_protocol.specs.Alone.{Alone, Alones, none, more}
 use Rattle.spec_protocol.specs.Alone as alone
 use Rattle.spec_protocol.specs.ActsOf.{alone_acts}
-use Rattle.spec_protocol.specs.Cells.{Cell, Ledger, LedgerCell, AreCells, first_cells, first_ledger, ledger_at, pending_in}
+use Rattle.spec_protocol.specs.Cells.{Cell, Ledger, LedgerCell, AreCells, ledger_at, pending_in}
 use Rattle.spec_protocol.specs.LedgerVisits.{Closes}
 use Rattle.spec_protocol.specs.AnonymousActs.{AnonymousAct, did, alones_acts, visit_anonymous_acts, may_anonymous_acts, step_anonymous_acts, steps_anonymous_acts}
 use Rattle.spec_protocol.specs.Follows.{names_begun, alone_lines, alones_lines, may_lines, step_lines}
@@ -30,13 +28,16 @@ use Rattle.law_protocol.proofs.LedgerVisit.{the_ledger}
 use Rattle.law_protocol.proofs.OneAtATime.{IsPlain}
 use Rattle.spec_protocol.proofs.Places.{set_same, set_here, set_else, set_again}
 use Rattle.law_protocol.proofs.StepsAlone.{checked_plain, failed_in_plain}
-use Rattle.law_protocol.proofs.SinceFirst.{SinceFirst, since_first}
 use Rattle.law_protocol.proofs.FollowsSteps.{visit_plain}
+use Rattle.law_behind.specs.Past.{Past, unclosed}
+use Rattle.law_sequential.specs.RunStart.{RunStart}
 use Rattle.law_sequential.specs.SequentialRun.{SequentialRun, IsInside, StaysInside}
 use Rattle.law_sequential.specs.EndsLast.{Phase, running, ending, CameSo, InPhase, IsNoEnd, IsNoStatement}
 use Rattle.law_sequential.specs.InStep.{InStep, due_in, Waits}
 use Rattle.law_sequential.proofs.Calm.{Still, alone_still, alones_still, still_in_step}
 use Rattle.law_sequential.proofs.Closes.{in_step_append}
+use Rattle.law_sequential.proofs.LedgerInStep.{due_below}
+use Rattle.law_sequential.proofs.SinceStart.{SinceStart, since_start}
 use Rattle.law_sequential.proofs.VisitInStep.{LedgerAfter, visit_in_step}
 
 -- ---- what more deeds add
@@ -108,32 +109,31 @@ may_inside {v} {s} {out} {i} {c} m inside = (
 
 -- ---- at the beginning
 
-pub sequential_run_begins : (v : Server) (database : Text) (size : ℕ) → 1 ≤ size → size ≤ max_block → SequentialRun v database size running [] [] (first_cells database size) (first_seat (first_cells database size) ∷ [])
-sequential_run_begins v database size least most = record {
-  some_size = least;
-  most_size = most;
+pub sequential_run_begins : {v : Server} {database : Text} {size : ℕ} {past : Past} (start : RunStart v database size past) → SequentialRun start running [] [] start.begins.cells (first_seat start.begins.cells ∷ [])
+sequential_run_begins {size = size} {past = past} start = record {
   steps = step.none;
   one_by_one = tt;
   begun = refl;
   taken_up = refl;
   came_so = tt;
-  ledger = first_ledger database size;
-  there = refl;
-  closes = none_due size least;
+  ledger = start.begins.stands.ledger;
+  there = start.begins.stands.are_cells.has_ledger;
+  closes = ap (λ (p : Past). pending (unclosed p.items)) (sym start.of_past) ∙ ap pending (sym start.begins.pending) ∙ sym (due_below size start.begins.stands.ledger start.begins.below);
 }
-  where
-    none_due : (n : ℕ) → 1 ≤ n → pending 0 ≡ full_or (0 == n) 0
-    none_due n l = sym (ap (λ (b : Bool). full_or b 0) (ne_eqb 0 n (λ e. omega (arith, e, l))))
 
 -- ---- with one step more
 
-module _ {v : Server} {database : Text} {size : ℕ} {phase : Phase} {names : List Text} {lines : List InputLine} {cells : List Cell} {seats : List SeatState} (c : SequentialRun v database size phase names lines cells seats) where
-  pub since : SinceFirst v database size cells seats c.steps
-  since = since_first v database size c.some_size c.most_size cells seats c.steps
+module _ {v : Server} {database : Text} {size : ℕ} {past : Past} {start : RunStart v database size past} {phase : Phase} {names : List Text} {lines : List InputLine} {cells : List Cell} {seats : List SeatState} (c : SequentialRun start phase names lines cells seats) where
+  pub since : SinceStart start.begins cells seats c.steps
+  since = since_start start.begins cells seats c.steps
+
+  -- some entry fits into a block
+  pub some_size : 1 ≤ size
+  some_size = let few = start.begins.below in omega (arith, few)
 
   -- the ledger's cell that lies there is the one that stands
-  pub ledger_is : c.ledger ≡ since.later.stands.ledger
-  ledger_is = the_ledger cells since.later.stands.catalog since.later.stands.ledger c.ledger since.later.stands.are_cells c.there
+  pub ledger_is : c.ledger ≡ since.stands.ledger
+  ledger_is = the_ledger cells since.stands.catalog since.stands.ledger c.ledger since.stands.are_cells c.there
 
   pub sized : c.ledger.block_size ≡ size
   sized = ap (λ (l : LedgerCell). l.block_size) ledger_is ∙ since.same_size
@@ -141,10 +141,8 @@ module _ {v : Server} {database : Text} {size : ℕ} {phase : Phase} {names : Li
   -- a step that one seat takes, with its deeds and lines
   pub one_more : {then_cells : List Cell} {then_seats : List SeatState} (s : Step v cells seats then_cells then_seats) → IsOneAlone s → Each (InPhase phase) (step_anonymous_acts s)
       → (then_ledger : LedgerCell) → get_elem? then_cells ledger_at ≡ some (Ledger then_ledger) → InStep size (due_in size c.ledger) (step_anonymous_acts s) (due_in size then_ledger)
-      → SequentialRun v database size phase (names ++ names_begun (step_anonymous_acts s)) (lines ++ step_lines s) then_cells then_seats
+      → SequentialRun start phase (names ++ names_begun (step_anonymous_acts s)) (lines ++ step_lines s) then_cells then_seats
   one_more s one phased then_ledger there closes = record {
-    some_size = c.some_size;
-    most_size = c.most_size;
     steps = step.more c.steps s;
     one_by_one = (c.one_by_one, one);
     begun = more_names (steps_anonymous_acts c.steps) (step_anonymous_acts s) ∙ ap (λ (ns : List Text). ns ++ names_begun (step_anonymous_acts s)) c.begun;
@@ -152,19 +150,19 @@ module _ {v : Server} {database : Text} {size : ℕ} {phase : Phase} {names : Li
     came_so = came_on phase (steps_anonymous_acts c.steps) (step_anonymous_acts s) c.came_so phased;
     ledger = then_ledger;
     there = there;
-    closes = in_step_append size (steps_anonymous_acts c.steps) (step_anonymous_acts s) (pending 0) (due_in size c.ledger) (due_in size then_ledger) c.closes closes;
+    closes = in_step_append size (steps_anonymous_acts c.steps) (step_anonymous_acts s) (pending (unclosed past.items)) (due_in size c.ledger) (due_in size then_ledger) c.closes closes;
   }
 
   still_due : (ds : List AnonymousAct) → Each Still ds → InStep size (due_in size c.ledger) ds (due_in size c.ledger)
   still_due ds h = still_in_step size (pending_in c.ledger == size) (pending_in c.ledger) ds h
 
   pub alone_more : (j : ℕ) (s t : SeatState) → get_elem? seats j ≡ some s → InactiveExcept seats j → (how : Alone v s t) → Each (InPhase phase) (map did (alone_acts how))
-      → SequentialRun v database size phase (names ++ names_begun (map did (alone_acts how))) (lines ++ alone_lines how) cells (slice_set seats j t)
+      → SequentialRun start phase (names ++ names_begun (map did (alone_acts how))) (lines ++ alone_lines how) cells (slice_set seats j t)
   alone_more j s t there quiet how phased = one_more (step.alone j s t there how refl refl) quiet phased c.ledger c.there (still_due (map did (alone_acts how)) (alone_still how))
 
   pub visit_more : (j : ℕ) (s : SeatState) → get_elem? seats j ≡ some s → InactiveExcept seats j → (out : List (ℕ × Cell)) → OutsAreIn cells out → (i : ℕ) (d : Cell) (t : SeatState) → (m : AllowedVisit v s out i d t)
       → Each (InPhase phase) (may_anonymous_acts m) → Waits size c.ledger m.visit
-      → SequentialRun v database size phase (names ++ names_begun (may_anonymous_acts m)) (lines ++ may_lines m) (slice_set cells i d) (slice_set seats j t)
+      → SequentialRun start phase (names ++ names_begun (may_anonymous_acts m)) (lines ++ may_lines m) (slice_set cells i d) (slice_set seats j t)
   visit_more j s there quiet out outs i d t m phased waits = one_more (step.visits (record {
     j = j;
     s = s;
@@ -185,14 +183,14 @@ module _ {v : Server} {database : Text} {size : ℕ} {phase : Phase} {names : Li
       its_cell = (subst (OutsAreIn cells) m.is_out outs).0
 
       after : LedgerAfter size cells i d c.ledger (visit_anonymous_acts v out m.visit m.old m.begun d m.ended m.happens)
-      after = visit_in_step v size c.some_size cells since.later.stands.catalog c.ledger (subst (λ (l : LedgerCell). AreCells cells since.later.stands.catalog l) (sym ledger_is) since.later.stands.are_cells) sized out i m.visit m.old m.begun d m.ended its_cell waits m.happens
+      after = visit_in_step v size some_size cells since.stands.catalog c.ledger (subst (λ (l : LedgerCell). AreCells cells since.stands.catalog l) (sym ledger_is) since.stands.are_cells) sized out i m.visit m.old m.begun d m.ended its_cell waits m.happens
 
   -- one that stays inside a statement
   pub visit_inside : (j : ℕ) (s : SeatState) → get_elem? seats j ≡ some s → InactiveExcept seats j → (out : List (ℕ × Cell)) → OutsAreIn cells out → (i : ℕ) (d : Cell) (t : SeatState) → (m : AllowedVisit v s out i d t)
       → StaysInside m → Waits size c.ledger m.visit
-      → SequentialRun v database size phase names lines (slice_set cells i d) (slice_set seats j t)
+      → SequentialRun start phase names lines (slice_set cells i d) (slice_set seats j t)
   visit_inside j s there quiet out outs i d t m inside waits = let p = may_inside m inside in
-      subst₂ (λ (ns : List Text) (ls : List InputLine). SequentialRun v database size phase ns ls (slice_set cells i d) (slice_set seats j t))
+      subst₂ (λ (ns : List Text) (ls : List InputLine). SequentialRun start phase ns ls (slice_set cells i d) (slice_set seats j t))
       (ap (λ (ns : List Text). names ++ ns) (plain_names (may_anonymous_acts m) p.1) ∙ append-nil names)
       (ap (λ (ls : List InputLine). lines ++ ls) p.0 ∙ append-nil lines)
       (visit_more j s there quiet out outs i d t m (plain_phase phase (may_anonymous_acts m) p.1) waits)
@@ -210,20 +208,20 @@ each_left P (x ∷ xs) ys h = let r = each_left P xs ys h.1 in ((h.0, r.0), r.1)
 still_inactive : (seats : List SeatState) (j : ℕ) (t : SeatState) → InactiveExcept seats j → InactiveExcept (slice_set seats j t) j
 still_inactive seats j t quiet k s ne e = quiet k s ne (sym (set_else seats j k t ne) ∙ e)
 
-module _ {v : Server} {database : Text} {size : ℕ} {phase : Phase} {names : List Text} {lines : List InputLine} {cells : List Cell} {seats : List SeatState} (c : SequentialRun v database size phase names lines cells seats)
+module _ {v : Server} {database : Text} {size : ℕ} {past : Past} {start : RunStart v database size past} {phase : Phase} {names : List Text} {lines : List InputLine} {cells : List Cell} {seats : List SeatState} (c : SequentialRun start phase names lines cells seats)
     (j : ℕ) (s : SeatState) (there : get_elem? seats j ≡ some s) (quiet : InactiveExcept seats j) where
   pub alones_more : (t : SeatState) (steps : Alones v s t) → Each (InPhase phase) (map did (alones_acts steps))
-      → SequentialRun v database size phase (names ++ names_begun (map did (alones_acts steps))) (lines ++ alones_lines steps) cells (slice_set seats j t)
-  alones_more _ none phased = subst₂ (λ (ns : List Text) (ls : List InputLine). SequentialRun v database size phase ns ls cells (slice_set seats j s)) (sym (append-nil names)) (sym (append-nil lines))
-      (subst (λ (us : List SeatState). SequentialRun v database size phase names lines cells us) (sym (set_same seats j s there)) c)
+      → SequentialRun start phase (names ++ names_begun (map did (alones_acts steps))) (lines ++ alones_lines steps) cells (slice_set seats j t)
+  alones_more _ none phased = subst₂ (λ (ns : List Text) (ls : List InputLine). SequentialRun start phase ns ls cells (slice_set seats j s)) (sym (append-nil names)) (sym (append-nil lines))
+      (subst (λ (us : List SeatState). SequentialRun start phase names lines cells us) (sym (set_same seats j s there)) c)
   alones_more _ (more {t} {u} first last) phased = let p = each_left (InPhase phase) (alones_acts first) (alone_acts last) phased in
       let before = alones_more t first p.0 in
       let after = alone_more before j t u (set_here seats j t s there) (still_inactive seats j t quiet) last p.1 in
-      subst₂ (λ (ns : List Text) (us : List SeatState). SequentialRun v database size phase ns (lines ++ (alones_lines first ++ alone_lines last)) cells us)
+      subst₂ (λ (ns : List Text) (us : List SeatState). SequentialRun start phase ns (lines ++ (alones_lines first ++ alone_lines last)) cells us)
       (append_assoc names (names_begun (map did (alones_acts first))) (names_begun (map did (alone_acts last)))
       ∙ ap (λ (ns : List Text). names ++ ns) (sym (more_names (map did (alones_acts first)) (map did (alone_acts last))) ∙ ap names_begun (sym (acts_append (alones_acts first) (alone_acts last)))))
       (set_again seats j t u)
-      (subst (λ (ls : List InputLine). SequentialRun v database size phase ((names ++ names_begun (map did (alones_acts first))) ++ names_begun (map did (alone_acts last))) ls cells (slice_set (slice_set seats j t) j u)) (append_assoc lines (alones_lines first) (alone_lines last)) after)
+      (subst (λ (ls : List InputLine). SequentialRun start phase ((names ++ names_begun (map did (alones_acts first))) ++ names_begun (map did (alone_acts last))) ls cells (slice_set (slice_set seats j t) j u)) (append_assoc lines (alones_lines first) (alone_lines last)) after)
 
 -- ---- steps in which no statement is taken up
 
@@ -268,10 +266,10 @@ may_silent {v} {s} {out} {i} {c} m e = let p = no_lines_left (alones_lines m.bef
 pub cell_same : (a b : LedgerCell) → some (Ledger a) ≡ some (Ledger b) → a ≡ b
 cell_same a b e = let f : Ledger a ≡ Ledger b = some-injective (Ledger a) (Ledger b) e in cc
 
-module _ {v : Server} {database : Text} {size : ℕ} {phase : Phase} {names : List Text} {lines : List InputLine} {cells : List Cell} {seats : List SeatState} (c : SequentialRun v database size phase names lines cells seats) where
+module _ {v : Server} {database : Text} {size : ℕ} {past : Past} {start : RunStart v database size past} {phase : Phase} {names : List Text} {lines : List InputLine} {cells : List Cell} {seats : List SeatState} (c : SequentialRun start phase names lines cells seats) where
   pub close_more : (j : ℕ) (s : SeatState) → get_elem? seats j ≡ some s → InactiveExcept seats j → (l : LedgerCell) → get_elem? cells ledger_at ≡ some (Ledger l) → pending_in l ≡ size → (k : ℕ) (d : LedgerCell) → Closes v k l d
-      → SequentialRun v database size phase names lines (slice_set cells ledger_at (Ledger d)) seats
-  close_more j s there quiet l lies is_full k d closes = subst (λ (us : List SeatState). SequentialRun v database size phase names lines (slice_set cells ledger_at (Ledger d)) us) (set_same seats j s there)
+      → SequentialRun start phase names lines (slice_set cells ledger_at (Ledger d)) seats
+  close_more j s there quiet l lies is_full k d closes = subst (λ (us : List SeatState). SequentialRun start phase names lines (slice_set cells ledger_at (Ledger d)) us) (set_same seats j s there)
       (visit_inside c j s there quiet ((ledger_at, Ledger l) ∷ []) (lies, tt) ledger_at (Ledger d) s one (record { before = tt; after = tt }) (ap (λ (x : LedgerCell). pending_in x) same ∙ is_full))
     where
       same : c.ledger ≡ l
@@ -306,7 +304,7 @@ before_last [] s u (suc k) ne e = e
 before_last (t ∷ seats) s u zero ne e = e
 before_last (t ∷ seats) s u (suc k) ne e = before_last seats s u k (λ same. ne (ap suc same)) e
 
-module _ {v : Server} {database : Text} {size : ℕ} {phase : Phase} {names : List Text} {lines : List InputLine} {cells : List Cell} {seats : List SeatState} (c : SequentialRun v database size phase names lines cells seats) where
+module _ {v : Server} {database : Text} {size : ℕ} {past : Past} {start : RunStart v database size past} {phase : Phase} {names : List Text} {lines : List InputLine} {cells : List Cell} {seats : List SeatState} (c : SequentialRun start phase names lines cells seats) where
   abbrev new_seat : SeatState → Text → SeatState
   new_seat parent name = sits (split parent 1) (alone.new_session name (split parent 1))
 
@@ -318,25 +316,23 @@ module _ {v : Server} {database : Text} {size : ℕ} {phase : Phase} {names : Li
       by ending = (tt, tt)
 
   pub session_more : (parent : SeatState) → get_elem? seats 0 ≡ some parent → parent.present ≡ true → ((k : ℕ) (s : SeatState) → get_elem? seats k ≡ some s → IsInactive s.role) → (name : Text)
-      → SequentialRun v database size phase (names ++ name ∷ []) lines cells (seats ++ new_seat parent name ∷ [])
-  session_more parent there present quiet name = subst₂ (λ (ls : List InputLine) (us : List SeatState). SequentialRun v database size phase (names ++ name ∷ []) ls cells us) (append-nil lines) (last_set seats (split parent 1) (new_seat parent name)) begun
+      → SequentialRun start phase (names ++ name ∷ []) lines cells (seats ++ new_seat parent name ∷ [])
+  session_more parent there present quiet name = subst₂ (λ (ls : List InputLine) (us : List SeatState). SequentialRun start phase (names ++ name ∷ []) ls cells us) (append-nil lines) (last_set seats (split parent 1) (new_seat parent name)) begun
     where
-      split_off : SequentialRun v database size phase (names ++ []) (lines ++ []) cells (slice_set seats 0 (kept parent 1) ++ split parent 1 ∷ [])
+      split_off : SequentialRun start phase (names ++ []) (lines ++ []) cells (slice_set seats 0 (kept parent 1) ++ split parent 1 ∷ [])
       split_off = one_more c (step.splits 0 1 parent there refl refl) tt tt c.ledger c.there refl
 
-      with_seat : SequentialRun v database size phase names lines cells (seats ++ split parent 1 ∷ [])
-      with_seat = subst₂ (λ (ns : List Text) (ls : List InputLine). SequentialRun v database size phase ns ls cells (seats ++ split parent 1 ∷ [])) (append-nil names) (append-nil lines)
-          (subst (λ (us : List SeatState). SequentialRun v database size phase (names ++ []) (lines ++ []) cells (us ++ split parent 1 ∷ [])) (set_same seats 0 parent there) split_off)
+      with_seat : SequentialRun start phase names lines cells (seats ++ split parent 1 ∷ [])
+      with_seat = subst₂ (λ (ns : List Text) (ls : List InputLine). SequentialRun start phase ns ls cells (seats ++ split parent 1 ∷ [])) (append-nil names) (append-nil lines)
+          (subst (λ (us : List SeatState). SequentialRun start phase (names ++ []) (lines ++ []) cells (us ++ split parent 1 ∷ [])) (set_same seats 0 parent there) split_off)
 
-      begun : SequentialRun v database size phase (names ++ name ∷ []) (lines ++ []) cells (slice_set (seats ++ split parent 1 ∷ []) (length seats) (new_seat parent name))
+      begun : SequentialRun start phase (names ++ name ∷ []) (lines ++ []) cells (slice_set (seats ++ split parent 1 ∷ []) (length seats) (new_seat parent name))
       begun = alone_more with_seat (length seats) (split parent 1) (new_seat parent name) (last_there seats (split parent 1)) (λ k s ne e. quiet k s (before_last seats (split parent 1) s k ne e)) (alone.begins name present refl) (starts_in name)
 
 -- ---- sessions end
 
-pub ends_now : {v : Server} {database : Text} {size : ℕ} {names : List Text} {lines : List InputLine} {cells : List Cell} {seats : List SeatState} → SequentialRun v database size running names lines cells seats → SequentialRun v database size ending names lines cells seats
+pub ends_now : {v : Server} {database : Text} {size : ℕ} {past : Past} {start : RunStart v database size past} {names : List Text} {lines : List InputLine} {cells : List Cell} {seats : List SeatState} → SequentialRun start running names lines cells seats → SequentialRun start ending names lines cells seats
 ends_now c = record {
-  some_size = c.some_size;
-  most_size = c.most_size;
   steps = c.steps;
   one_by_one = c.one_by_one;
   begun = c.begun;

@@ -1,13 +1,17 @@
+pub mod AtStart
+mod Begins
 pub mod Calm
 pub mod ClosedBefore
 pub mod Closes
 pub mod Ends
 pub mod Goes
+pub mod InFront
 pub mod LedgerInStep
 pub mod Over
 pub mod SameNames
 pub mod SeatOn
 pub mod SessionsStand
+pub mod SinceStart
 pub mod Texts
 pub mod SessionOutput
 pub mod VisitInStep

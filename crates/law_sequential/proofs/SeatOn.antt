@@ -17,6 +17,8 @@ use Rattle.spec_protocol.specs.Seats.{KeptImage, Session, Role, idle, session, S
 use Rattle.spec_protocol.specs.Server.{Server}
 use Rattle.spec_protocol.specs.Visits as visit
 use Rattle.spec_protocol.specs.Visits.{Visit, Happens}
+use Rattle.law_behind.specs.Past.{Past}
+use Rattle.law_sequential.specs.RunStart.{RunStart}
 use Rattle.law_sequential.specs.SequentialRun.{SequentialRun}
 use Rattle.law_sequential.specs.EndsLast.{Phase, InPhase}
 use Rattle.law_sequential.specs.InStep.{Waits, IsClosing, IsIssue, ClosesForDigest}
@@ -131,7 +133,7 @@ module _ (N : ℕ) (l : LedgerCell) (below : pending_in l < N) {v : Server} {s :
 
 -- ---- the seat of a session goes on
 
-module _ {v : Server} {database : Text} {size : ℕ} {phase : Phase} {lines : List InputLine} {moments : List ℕ} {told : List SessionOutput} {cells : List Cell} {states : List SeatState} (c : SessionsStand v database size phase lines moments told cells states)
+module _ {v : Server} {database : Text} {size : ℕ} {past : Past} {start : RunStart v database size past} {phase : Phase} {lines : List InputLine} {moments : List ℕ} {told : List SessionOutput} {cells : List Cell} {states : List SeatState} (c : SessionsStand start phase lines moments told cells states)
     (j : ℕ) (s : SeatState) (there : get_elem? states j ≡ some s) (k : SessionOutput) (is_told : get_elem? told j ≡ some k) (others : OthersInactive states j) where
   its : ShownAt moments told j s
   its = shown_at moments told states c.shown j s there
@@ -144,31 +146,31 @@ module _ {v : Server} {database : Text} {size : ℕ} {phase : Phase} {lines : Li
 
   pub alone_on : (t : SeatState) (steps : Alones v s t) → Each (InPhase phase) (map did (alones_acts steps)) → names_begun (map did (alones_acts steps)) ≡ []
       → (entries : List Entry) (images : List KeptImage) (times later : List ℕ) → Gains s entries images times t → Each (λ time. In time later) times
-      → SessionsStand v database size phase (lines ++ alones_lines steps) (moments ++ later) (slice_set told j (told_with k entries images)) cells (slice_set states j t)
+      → SessionsStand start phase (lines ++ alones_lines steps) (moments ++ later) (slice_set told j (told_with k entries images)) cells (slice_set states j t)
   alone_on t steps phased nameless entries images times later g at = one_seat_on c later j s t (told_with k entries images) k there is_told refl
-      (subst (λ (ns : List Text). SequentialRun v database size phase ns (lines ++ alones_lines steps) cells (slice_set (c.parent ∷ states) (suc j) t)) (named (map did (alones_acts steps)) nameless)
+      (subst (λ (ns : List Text). SequentialRun start phase ns (lines ++ alones_lines steps) cells (slice_set (c.parent ∷ states) (suc j) t)) (named (map did (alones_acts steps)) nameless)
       (alones_more c.sequential_run (suc j) s there (inactive_except c.parent states j c.rests others) t steps phased))
       (runs_on moments later k s t entries images times (runs_there g.x g.before) g at)
 
   pub over_now : (t : SeatState) (steps : Alones v s t) → Each (InPhase phase) (map did (alones_acts steps)) → names_begun (map did (alones_acts steps)) ≡ []
       → (entries : List Entry) (later : List ℕ) → Writes s entries t
-      → SessionsStand v database size phase (lines ++ alones_lines steps) (moments ++ later) (slice_set told j (told_with k entries [])) cells (slice_set states j t)
+      → SessionsStand start phase (lines ++ alones_lines steps) (moments ++ later) (slice_set told j (told_with k entries [])) cells (slice_set states j t)
   over_now t steps phased nameless entries later g = one_seat_on c later j s t (told_with k entries []) k there is_told refl
-      (subst (λ (ns : List Text). SequentialRun v database size phase ns (lines ++ alones_lines steps) cells (slice_set (c.parent ∷ states) (suc j) t)) (named (map did (alones_acts steps)) nameless)
+      (subst (λ (ns : List Text). SequentialRun start phase ns (lines ++ alones_lines steps) cells (slice_set (c.parent ∷ states) (suc j) t)) (named (map did (alones_acts steps)) nameless)
       (alones_more c.sequential_run (suc j) s there (inactive_except c.parent states j c.rests others) t steps phased))
       (over_on moments later k s t entries (runs_there g.x g.before) g)
 
   pub visit_on : (out : List (ℕ × Cell)) → OutsAreIn cells out → (i : ℕ) (d : Cell) (t : SeatState) (m : AllowedVisit v s out i d t) → Each (InPhase phase) (may_anonymous_acts m) → names_begun (may_anonymous_acts m) ≡ []
       → (l : LedgerCell) → get_elem? cells ledger_at ≡ some (Ledger l) → pending_in l < size → ClosesForDigest (may_anonymous_acts m)
       → (entries : List Entry) (images : List KeptImage) (times later : List ℕ) → Gains s entries images times t → Each (λ time. In time later) times
-      → SessionsStand v database size phase (lines ++ may_lines m) (moments ++ later) (slice_set told j (told_with k entries images)) (slice_set cells i d) (slice_set states j t)
+      → SessionsStand start phase (lines ++ may_lines m) (moments ++ later) (slice_set told j (told_with k entries images)) (slice_set cells i d) (slice_set states j t)
   visit_on out outs i d t m phased nameless l lies below digests entries images times later g at = one_seat_on c later j s t (told_with k entries images) k there is_told refl
-      (subst (λ (ns : List Text). SequentialRun v database size phase ns (lines ++ may_lines m) (slice_set cells i d) (slice_set (c.parent ∷ states) (suc j) t)) (named (may_anonymous_acts m) nameless)
+      (subst (λ (ns : List Text). SequentialRun start phase ns (lines ++ may_lines m) (slice_set cells i d) (slice_set (c.parent ∷ states) (suc j) t)) (named (may_anonymous_acts m) nameless)
       (visit_more c.sequential_run (suc j) s there (inactive_except c.parent states j c.rests others) out outs i d t m phased
       (waits_by_anonymous_acts size c.sequential_run.ledger (subst (λ (z : LedgerCell). pending_in z < size) (sym (cell_same c.sequential_run.ledger l (sym c.sequential_run.there ∙ lies))) below) m digests)))
       (runs_on moments later k s t entries images times (runs_there g.x g.before) g at)
 
   -- its seat closes a full block
   pub close_on : (l : LedgerCell) → get_elem? cells ledger_at ≡ some (Ledger l) → pending_in l ≡ size → (n : ℕ) (d : LedgerCell) → Closes v n l d
-      → SessionsStand v database size phase lines moments told (slice_set cells ledger_at (Ledger d)) states
+      → SessionsStand start phase lines moments told (slice_set cells ledger_at (Ledger d)) states
   close_on l lies is_full n d closes = cells_on c (close_more c.sequential_run (suc j) s there (inactive_except c.parent states j c.rests others) l lies is_full n d closes)

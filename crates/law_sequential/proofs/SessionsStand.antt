@@ -1,17 +1,19 @@
 -- How a course by its sessions goes on, and that it ends.
 use Rattle.std.proofs.Common.{◌≡◌, ◌⊎◌, ◌<◌, ◌≤◌, ◌^◌, ℕ, zero, suc, List, [], ◌∷◌, ◌++◌, map, slice_set, refl, sym, ap, ap₂, subst, ◌∙◌, inl, inr, ⊎_elim}
-use mathlib.Core.Option.{some, none, some-injective}
+use mathlib.Core.Option.{some, none, some-injective, some-ne-none}
 use lib.ListN.{get_elem?}
-use Rattle.spec_model.specs.Limits.{max_block}
 use Rattle.spec_history.specs.Inputs.{InputLine}
 use Rattle.spec_history.specs.Lists.{Text, Each, In}
 use Rattle.spec_history.specs.Transcripts.{Transcript}
 use Rattle.spec_protocol.specs.Alone.{new_session}
-use Rattle.spec_protocol.specs.Cells.{Cell, Ledger, LedgerCell, first_cells, ledger_at, pending_in}
+use Rattle.spec_protocol.specs.AllowedVisit.{first_seat}
+use Rattle.spec_protocol.specs.Cells.{Cell, Catalog, Ledger, LedgerCell, Rows, ledger_at, pending_in}
 use Rattle.spec_protocol.specs.Moves.{sits}
 use Rattle.spec_protocol.specs.InactiveExcept.{IsInactive, InactiveExcept}
 use Rattle.spec_protocol.specs.Seats.{KeptImage, Session, Role, idle, session, SeatState, Written, IsAtRest, idle_seat, split}
 use Rattle.spec_protocol.specs.Server.{Server}
+use Rattle.law_behind.specs.Past.{Past}
+use Rattle.law_sequential.specs.RunStart.{RunStart}
 use Rattle.law_sequential.specs.SequentialRun.{SequentialRun}
 use Rattle.law_sequential.specs.EndsLast.{Phase, running, ending}
 use Rattle.law_sequential.specs.Sessions.{SessionOutput, names_told, told_nothing, Runs, IsOver, IsShown, EachShown, SessionsStand, OthersInactive}
@@ -89,26 +91,38 @@ quiet_all parent states rests all (suc k) s e = all k s e
 
 -- ---- a course by its sessions
 
-pub sessions_stand_first : (v : Server) (database : Text) (size : ℕ) → 1 ≤ size → size ≤ max_block → SessionsStand v database size running [] [] [] (first_cells database size) []
-sessions_stand_first v database size least most = record {
+-- the first seat has the database and the block size of the start
+first_is : {v : Server} {database : Text} {size : ℕ} {past : Past} (start : RunStart v database size past) → first_seat start.begins.cells ≡ idle_seat database size 0 []
+first_is {v} {database} {size} start = by_cells start.begins.cells start.begins.stands.ledger start.begins.stands.are_cells.has_ledger
+    ∙ ap₂ (λ (d : Text) (n : ℕ). idle_seat d n 0 []) start.begins.of_database start.begins.of_size
+  where
+    by_cells : (cells : List Cell) (l : LedgerCell) → get_elem? cells ledger_at ≡ some (Ledger l) → first_seat cells ≡ idle_seat l.database l.block_size 0 []
+    by_cells (c ∷ Ledger k ∷ cells) l e = let same = cell_same k l e in ap₂ (λ (d : Text) (n : ℕ). idle_seat d n 0 []) (ap (λ (z : LedgerCell). z.database) same) (ap (λ (z : LedgerCell). z.block_size) same)
+    by_cells (c ∷ Catalog k ∷ cells) l e = let f : some (Catalog k) ≡ some (Ledger l) = e in cc
+    by_cells (c ∷ Rows k ∷ cells) l e = let f : some (Rows k) ≡ some (Ledger l) = e in cc
+    by_cells (c ∷ []) l e = absurd (some-ne-none (Ledger l) (sym e))
+    by_cells [] l e = absurd (some-ne-none (Ledger l) (sym e))
+
+pub sessions_stand_first : {v : Server} {database : Text} {size : ℕ} {past : Past} (start : RunStart v database size past) → SessionsStand start running [] [] [] start.begins.cells []
+sessions_stand_first {database = database} {size = size} start = record {
   parent = idle_seat database size 0 [];
   present = refl;
   rests = refl;
   none = refl;
-  sequential_run = sequential_run_begins v database size least most;
+  sequential_run = subst (λ (s : SeatState). SequentialRun start running [] [] start.begins.cells (s ∷ [])) (first_is start) (sequential_run_begins start);
   shown = tt;
 }
 
-module _ {v : Server} {database : Text} {size : ℕ} {phase : Phase} {lines : List InputLine} {moments : List ℕ} {told : List SessionOutput} {cells : List Cell} {states : List SeatState} (c : SessionsStand v database size phase lines moments told cells states) where
+module _ {v : Server} {database : Text} {size : ℕ} {past : Past} {start : RunStart v database size past} {phase : Phase} {lines : List InputLine} {moments : List ℕ} {told : List SessionOutput} {cells : List Cell} {states : List SeatState} (c : SessionsStand start phase lines moments told cells states) where
   -- a session more
   pub one_session_more : ((k : ℕ) (s : SeatState) → get_elem? states k ≡ some s → IsInactive s.role) → (name : Text)
-      → SessionsStand v database size phase lines moments (told ++ told_nothing name ∷ []) cells (states ++ sits (split c.parent 1) (new_session name (split c.parent 1)) ∷ [])
+      → SessionsStand start phase lines moments (told ++ told_nothing name ∷ []) cells (states ++ sits (split c.parent 1) (new_session name (split c.parent 1)) ∷ [])
   one_session_more quiet name = record {
     parent = c.parent;
     present = c.present;
     rests = c.rests;
     none = c.none;
-    sequential_run = subst (λ (ns : List Text). SequentialRun v database size phase ns lines cells (c.parent ∷ (states ++ sits (split c.parent 1) (new_session name (split c.parent 1)) ∷ []))) (sym (names_last told (told_nothing name)))
+    sequential_run = subst (λ (ns : List Text). SequentialRun start phase ns lines cells (c.parent ∷ (states ++ sits (split c.parent 1) (new_session name (split c.parent 1)) ∷ []))) (sym (names_last told (told_nothing name)))
         (session_more c.sequential_run c.parent refl c.present (quiet_all c.parent states c.rests quiet) name);
     shown = shown_last moments told states c.shown (told_nothing name) (sits (split c.parent 1) (new_session name (split c.parent 1)))
         (inl (record { x = new_session name (split c.parent 1); role = refl; transcript = refl; images = refl; in_time = tt; first = refl }));
@@ -116,22 +130,22 @@ module _ {v : Server} {database : Text} {size : ℕ} {phase : Phase} {lines : Li
 
   -- the course goes on, and a seat with it
   pub one_seat_on : {then_phase : Phase} {then_lines : List InputLine} {then_cells : List Cell} (later : List ℕ) (j : ℕ) (s t : SeatState) (k l : SessionOutput) → get_elem? states j ≡ some s → get_elem? told j ≡ some l → k.transcript.session ≡ l.transcript.session
-      → SequentialRun v database size then_phase (names_told told) then_lines then_cells (slice_set (c.parent ∷ states) (suc j) t) → IsShown (moments ++ later) k t
-      → SessionsStand v database size then_phase then_lines (moments ++ later) (slice_set told j k) then_cells (slice_set states j t)
+      → SequentialRun start then_phase (names_told told) then_lines then_cells (slice_set (c.parent ∷ states) (suc j) t) → IsShown (moments ++ later) k t
+      → SessionsStand start then_phase then_lines (moments ++ later) (slice_set told j k) then_cells (slice_set states j t)
   one_seat_on {then_phase} {then_lines} {then_cells} later j s t k l there was same sequential_run is = record {
     parent = c.parent;
     present = c.present;
     rests = c.rests;
     none = c.none;
-    sequential_run = subst (λ (ns : List Text). SequentialRun v database size then_phase ns then_lines then_cells (c.parent ∷ slice_set states j t)) (sym (names_set told j l k was same)) sequential_run;
+    sequential_run = subst (λ (ns : List Text). SequentialRun start then_phase ns then_lines then_cells (c.parent ∷ slice_set states j t)) (sym (names_set told j l k was same)) sequential_run;
     shown = shown_set (moments ++ later) told states (each_later moments later told states c.shown) j k t is;
   }
 
   -- cells alone go on
-  pub cells_on : {then_cells : List Cell} → SequentialRun v database size phase (names_told told) lines then_cells (c.parent ∷ states) → SessionsStand v database size phase lines moments told then_cells states
+  pub cells_on : {then_cells : List Cell} → SequentialRun start phase (names_told told) lines then_cells (c.parent ∷ states) → SessionsStand start phase lines moments told then_cells states
   cells_on sequential_run = record { parent = c.parent; present = c.present; rests = c.rests; none = c.none; sequential_run = sequential_run; shown = c.shown }
 
-pub sessions_may_end : {v : Server} {database : Text} {size : ℕ} {lines : List InputLine} {moments : List ℕ} {told : List SessionOutput} {cells : List Cell} {states : List SeatState} → SessionsStand v database size running lines moments told cells states → SessionsStand v database size ending lines moments told cells states
+pub sessions_may_end : {v : Server} {database : Text} {size : ℕ} {past : Past} {start : RunStart v database size past} {lines : List InputLine} {moments : List ℕ} {told : List SessionOutput} {cells : List Cell} {states : List SeatState} → SessionsStand start running lines moments told cells states → SessionsStand start ending lines moments told cells states
 sessions_may_end c = record { parent = c.parent; present = c.present; rests = c.rests; none = c.none; sequential_run = ends_now c.sequential_run; shown = c.shown }
 
 -- ---- the end
@@ -165,10 +179,11 @@ all_wrote moments (k ∷ ks) (s ∷ ss) h rest = ⊎_elim
     })
     h.0
 
-pub sessions_have_ended : {v : Server} {database : Text} {size : ℕ} {lines : List InputLine} {moments : List ℕ} {told : List SessionOutput} {cells : List Cell} {states : List SeatState} → SessionsStand v database size ending lines moments told cells states
+pub sessions_have_ended : {v : Server} {database : Text} {size : ℕ} {past : Past} {start : RunStart v database size past} {lines : List InputLine} {moments : List ℕ} {told : List SessionOutput} {cells : List Cell} {states : List SeatState} → SessionsStand start ending lines moments told cells states
     → Each (λ s. IsAtRest s.role) states → (l : LedgerCell) → get_elem? cells ledger_at ≡ some (Ledger l) → pending_in l < size → l.next ≤ 2 ^ 63
-    → HasEnded v database size (names_told told) lines moments (map (λ k. k.transcript) told) (map (λ k. k.images) told) l.items l.issued
-sessions_have_ended {v} {database} {size} {lines} {moments} {told} {cells} {states} c rest l lies below ids = record {
+    → HasEnded v database size past (names_told told) lines moments (map (λ k. k.transcript) told) (map (λ k. k.images) told) l.items l.issued
+sessions_have_ended {size = size} {start = start} {moments = moments} {told = told} {cells = cells} {states = states} c rest l lies below ids = record {
+  start = start;
   cells = cells;
   seats = c.parent ∷ states;
   sequential_run = c.sequential_run;

@@ -18,21 +18,26 @@ use Rattle.spec_protocol.specs.AtTheEnd.{image_items}
 use Rattle.spec_protocol.specs.Cells.{Cell, pending_in}
 use Rattle.spec_protocol.specs.Seats.{KeptImage, SeatState, Written}
 use Rattle.spec_protocol.specs.Server.{Server}
-use Rattle.law_sequential.specs.SequentialRun.{SequentialRun}
+use Rattle.law_behind.specs.AgreeBehind.{AgreeBehind}
+use Rattle.law_behind.specs.OrderBehind.{StepOrderBehind}
+use Rattle.law_behind.specs.Past.{Past}
 use Rattle.law_sequential.specs.EndsLast.{ending}
+use Rattle.law_sequential.specs.RunStart.{RunStart}
+use Rattle.law_sequential.specs.SequentialRun.{SequentialRun}
 use Rattle.law_sequential.specs.Wrote.{Wrote, transcripts_in}
 
 -- ---- what a server came to
 
--- A course is over in which sessions of these names took up these lines, and committed and were issued
--- digests at some of these moments: they have these transcripts and kept these images, and this is the
+-- A course behind this past is over in which sessions of these names took up these lines, and committed and were
+-- issued digests at some of these moments: they have these transcripts and kept these images, and this is the
 -- journal and these are the digests.
-pub record HasEnded (v : Server) (database : Text) (size : ℕ) (names : List Text) (lines : List InputLine)
-    (moments : List ℕ) (X : List Transcript) (images : List (List KeptImage)) (J : List JournalItem)
-    (G : List Digest) : Type 0 where
+pub record HasEnded (v : Server) (database : Text) (size : ℕ) (past : Past) (names : List Text)
+    (lines : List InputLine) (moments : List ℕ) (X : List Transcript) (images : List (List KeptImage))
+    (J : List JournalItem) (G : List Digest) : Type 0 where
+  pub start : RunStart v database size past
   pub cells : List Cell
   pub seats : List SeatState
-  pub sequential_run : SequentialRun v database size ending names lines cells seats
+  pub sequential_run : SequentialRun start ending names lines cells seats
   pub written : List Written
   pub wrote : Wrote seats written
   pub transcripts : transcripts_in written ≡ X
@@ -68,6 +73,17 @@ pub record RunAgrees (h : List ℕ → List ℕ) (reads : Reading) (database : T
   -- in the order of the lines, with E20 exactly where a lock is in the way
   pub in_order : (q : Meaning) → IsMeaning h reads q → StepOrder q size lines X J
   -- the images are those that the transcripts show, of cuts of the journal
+  pub shown : (q : Meaning) → IsMeaning h reads q
+      → map (λ kept. map (λ k. k.0) kept) images ≡ map (λ x. flat_map image_items (facts_of q x)) X
+  pub are_images : Each (λ kept. Each (IsImageOf h reads database J) kept) images
+
+-- So they are behind a past.
+pub record RunAgreesBehind (h : List ℕ → List ℕ) (reads : Reading) (database : Text) (size : ℕ) (past : Past)
+    (names : List Text) (lines : List InputLine) (X : List Transcript) (images : List (List KeptImage))
+    (J : List JournalItem) (G : List Digest) : Type 0 where
+  pub agree : (q : Meaning) → IsMeaning h reads q
+      → AgreeBehind q database past (sessions_in lines names) None X J G
+  pub in_order : (q : Meaning) → IsMeaning h reads q → StepOrderBehind q size past lines X J
   pub shown : (q : Meaning) → IsMeaning h reads q
       → map (λ kept. map (λ k. k.0) kept) images ≡ map (λ x. flat_map image_items (facts_of q x)) X
   pub are_images : Each (λ kept. Each (IsImageOf h reads database J) kept) images

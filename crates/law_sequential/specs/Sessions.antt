@@ -9,8 +9,10 @@ use Rattle.spec_protocol.specs.Cells.{Cell}
 use Rattle.spec_protocol.specs.InactiveExcept.{IsInactive}
 use Rattle.spec_protocol.specs.Seats.{KeptImage, Session, idle, session, SeatState, Written}
 use Rattle.spec_protocol.specs.Server.{Server}
-use Rattle.law_sequential.specs.SequentialRun.{SequentialRun}
+use Rattle.law_behind.specs.Past.{Past}
 use Rattle.law_sequential.specs.EndsLast.{Phase}
+use Rattle.law_sequential.specs.RunStart.{RunStart}
+use Rattle.law_sequential.specs.SequentialRun.{SequentialRun}
 
 -- what a session has shown
 pub record SessionOutput : Type 0 where
@@ -53,13 +55,14 @@ EachShown moments _ _ = ⊥
 
 -- The first seat is idle, and behind it each session has its seat: the server took this course, and they have
 -- shown this.
-pub record SessionsStand (v : Server) (database : Text) (size : ℕ) (phase : Phase) (lines : List InputLine)
-    (moments : List ℕ) (told : List SessionOutput) (cells : List Cell) (states : List SeatState) : Type 0 where
+pub record SessionsStand {v : Server} {database : Text} {size : ℕ} {past : Past}
+    (start : RunStart v database size past) (phase : Phase) (lines : List InputLine) (moments : List ℕ)
+    (told : List SessionOutput) (cells : List Cell) (states : List SeatState) : Type 0 where
   pub parent : SeatState
   pub present : parent.present ≡ true
   pub rests : parent.role ≡ idle
   pub none : parent.written ≡ []
-  pub sequential_run : SequentialRun v database size phase (names_told told) lines cells (parent ∷ states)
+  pub sequential_run : SequentialRun start phase (names_told told) lines cells (parent ∷ states)
   pub shown : EachShown moments told states
 
 -- all sessions but this one are between statements

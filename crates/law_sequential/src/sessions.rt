@@ -3,12 +3,11 @@
 ghost use Rattle.std.specs.Prelude.{◌≡◌, ◌≤◌, ◌<◌, ◌^◌, ◌++◌, ℕ, suc, List, [], ◌∷◌, map, slice_set};
 ghost use mathlib.Core.Option.{some};
 ghost use lib.ListN.{get_elem?};
-ghost use Rattle.spec_model.specs.Limits.{max_block};
 ghost use Rattle.spec_history.specs.Inputs.{InputLine};
 ghost use Rattle.spec_history.specs.Lists.{Text, Each, In};
 ghost use Rattle.spec_history.specs.Transcripts.{Entry};
 ghost use Rattle.spec_protocol.specs.Alone.{Alones, new_session};
-ghost use Rattle.spec_protocol.specs.Cells.{Cell, Ledger, LedgerCell, first_cells, ledger_at, pending_in};
+ghost use Rattle.spec_protocol.specs.Cells.{Cell, Ledger, LedgerCell, ledger_at, pending_in};
 ghost use Rattle.spec_protocol.specs.AnonymousActs.{did, alones_acts, may_anonymous_acts};
 ghost use Rattle.spec_protocol.specs.Follows.{alones_lines, may_lines, names_begun};
 ghost use Rattle.spec_protocol.specs.LedgerVisits.{Closes};
@@ -17,45 +16,51 @@ ghost use Rattle.spec_protocol.specs.Moves.{sits};
 ghost use Rattle.spec_protocol.specs.InactiveExcept.{IsInactive, InactiveExcept};
 ghost use Rattle.spec_protocol.specs.Seats.{KeptImage, SeatState, IsAtRest, split};
 ghost use Rattle.spec_protocol.specs.Server.{Server};
+ghost use Rattle.law_behind.specs.Past.{Past};
+ghost use Rattle.law_sequential.specs.RunStart.{RunStart};
 ghost use Rattle.law_sequential.specs.SequentialRun.{SequentialRun};
 ghost use Rattle.law_sequential.specs.EndsLast.{Phase, running, ending, InPhase};
 ghost use Rattle.law_sequential.specs.InStep.{ClosesForDigest};
 ghost use Rattle.law_sequential.specs.Sessions.{SessionOutput, names_told, told_nothing, told_with, Gains, Writes, IsShown, SessionsStand, OthersInactive};
 ghost use Rattle.law_sequential.specs.SessionOutput.{HasEnded};
 
-/// With the first cells no session has begun; one more may begin while all are between statements.
+/// With the cells of the start no session has begun; one more may begin while all are between statements.
 pub fn sessions_stand()
-    ensures first { (v : Server) (database : Text) (size : ℕ) → 1 ≤ size → size ≤ max_block
-        → SessionsStand v database size running [] [] [] (first_cells database size) [] }
-    ensures more { (v : Server) (database : Text) (size : ℕ) (phase : Phase) (lines : List InputLine)
+    ensures first { (v : Server) (database : Text) (size : ℕ) (past : Past) (start : RunStart v database size past)
+        → SessionsStand start running [] [] [] start.begins.cells [] }
+    ensures more { (v : Server) (database : Text) (size : ℕ) (past : Past) (start : RunStart v database size past)
+        (phase : Phase) (lines : List InputLine)
         (moments : List ℕ) (told : List SessionOutput) (cells : List Cell) (states : List SeatState)
-        → (c : SessionsStand v database size phase lines moments told cells states)
+        → (c : SessionsStand start phase lines moments told cells states)
         → ((k : ℕ) (s : SeatState) → get_elem? states k ≡ some s → IsInactive s.role) → (name : Text)
-        → SessionsStand v database size phase lines moments (told ++ told_nothing name ∷ []) cells
+        → SessionsStand start phase lines moments (told ++ told_nothing name ∷ []) cells
         (states ++ sits (split c.parent 1) (new_session name (split c.parent 1)) ∷ []) }
 {}
 
 /// Where the course goes on with one seat, whose session has shown this then, sessions stand. All other seats
 /// are quiet where all other sessions are.
 pub fn sessions_go_on()
-    ensures one { (v : Server) (database : Text) (size : ℕ) (phase then_phase : Phase)
+    ensures one { (v : Server) (database : Text) (size : ℕ) (past : Past) (start : RunStart v database size past)
+        (phase then_phase : Phase)
         (lines then_lines : List InputLine) (moments later : List ℕ) (told : List SessionOutput)
         (cells then_cells : List Cell) (states : List SeatState)
-        → (c : SessionsStand v database size phase lines moments told cells states)
+        → (c : SessionsStand start phase lines moments told cells states)
         → (j : ℕ) (s t : SeatState) (k l : SessionOutput) → get_elem? states j ≡ some s → get_elem? told j ≡ some l
         → k.transcript.session ≡ l.transcript.session
-        → SequentialRun v database size then_phase (names_told told) then_lines then_cells
+        → SequentialRun start then_phase (names_told told) then_lines then_cells
         (slice_set (c.parent ∷ states) (suc j) t) → IsShown (moments ++ later) k t
-        → SessionsStand v database size then_phase then_lines (moments ++ later) (slice_set told j k)
+        → SessionsStand start then_phase then_lines (moments ++ later) (slice_set told j k)
         then_cells (slice_set states j t) }
-    ensures cells { (v : Server) (database : Text) (size : ℕ) (phase : Phase) (lines : List InputLine)
+    ensures cells { (v : Server) (database : Text) (size : ℕ) (past : Past) (start : RunStart v database size past)
+        (phase : Phase) (lines : List InputLine)
         (moments : List ℕ) (told : List SessionOutput) (cells then_cells : List Cell) (states : List SeatState)
-        → (c : SessionsStand v database size phase lines moments told cells states)
-        → SequentialRun v database size phase (names_told told) lines then_cells (c.parent ∷ states)
-        → SessionsStand v database size phase lines moments told then_cells states }
-    ensures quiet { (v : Server) (database : Text) (size : ℕ) (phase : Phase) (lines : List InputLine)
+        → (c : SessionsStand start phase lines moments told cells states)
+        → SequentialRun start phase (names_told told) lines then_cells (c.parent ∷ states)
+        → SessionsStand start phase lines moments told then_cells states }
+    ensures quiet { (v : Server) (database : Text) (size : ℕ) (past : Past) (start : RunStart v database size past)
+        (phase : Phase) (lines : List InputLine)
         (moments : List ℕ) (told : List SessionOutput) (cells : List Cell) (states : List SeatState)
-        → (c : SessionsStand v database size phase lines moments told cells states)
+        → (c : SessionsStand start phase lines moments told cells states)
         → (j : ℕ) → OthersInactive states j → InactiveExcept (c.parent ∷ states) (suc j) }
 {}
 
@@ -63,30 +68,33 @@ pub fn sessions_go_on()
 /// other sessions are between statements and no session begins: the session has shown then what it gains by
 /// this. A visit comes where no block is full, and closes none without a digest.
 pub fn one_session_goes_on()
-    ensures alone { (v : Server) (database : Text) (size : ℕ) (phase : Phase) (lines : List InputLine)
+    ensures alone { (v : Server) (database : Text) (size : ℕ) (past : Past) (start : RunStart v database size past)
+        (phase : Phase) (lines : List InputLine)
         (moments : List ℕ) (told : List SessionOutput) (cells : List Cell) (states : List SeatState)
-        → SessionsStand v database size phase lines moments told cells states
+        → SessionsStand start phase lines moments told cells states
         → (j : ℕ) (s : SeatState) → get_elem? states j ≡ some s → (k : SessionOutput) → get_elem? told j ≡ some k
         → OthersInactive states j
         → (t : SeatState) (steps : Alones v s t) → Each (InPhase phase) (map did (alones_acts steps))
         → names_begun (map did (alones_acts steps)) ≡ []
         → (entries : List Entry) (images : List KeptImage) (times later : List ℕ)
         → Gains s entries images times t → Each (λ time. In time later) times
-        → SessionsStand v database size phase (lines ++ alones_lines steps) (moments ++ later)
+        → SessionsStand start phase (lines ++ alones_lines steps) (moments ++ later)
         (slice_set told j (told_with k entries images)) cells (slice_set states j t) }
-    ensures over { (v : Server) (database : Text) (size : ℕ) (phase : Phase) (lines : List InputLine)
+    ensures over { (v : Server) (database : Text) (size : ℕ) (past : Past) (start : RunStart v database size past)
+        (phase : Phase) (lines : List InputLine)
         (moments : List ℕ) (told : List SessionOutput) (cells : List Cell) (states : List SeatState)
-        → SessionsStand v database size phase lines moments told cells states
+        → SessionsStand start phase lines moments told cells states
         → (j : ℕ) (s : SeatState) → get_elem? states j ≡ some s → (k : SessionOutput) → get_elem? told j ≡ some k
         → OthersInactive states j
         → (t : SeatState) (steps : Alones v s t) → Each (InPhase phase) (map did (alones_acts steps))
         → names_begun (map did (alones_acts steps)) ≡ []
         → (entries : List Entry) (later : List ℕ) → Writes s entries t
-        → SessionsStand v database size phase (lines ++ alones_lines steps) (moments ++ later)
+        → SessionsStand start phase (lines ++ alones_lines steps) (moments ++ later)
         (slice_set told j (told_with k entries [])) cells (slice_set states j t) }
-    ensures visits { (v : Server) (database : Text) (size : ℕ) (phase : Phase) (lines : List InputLine)
+    ensures visits { (v : Server) (database : Text) (size : ℕ) (past : Past) (start : RunStart v database size past)
+        (phase : Phase) (lines : List InputLine)
         (moments : List ℕ) (told : List SessionOutput) (cells : List Cell) (states : List SeatState)
-        → SessionsStand v database size phase lines moments told cells states
+        → SessionsStand start phase lines moments told cells states
         → (j : ℕ) (s : SeatState) → get_elem? states j ≡ some s → (k : SessionOutput) → get_elem? told j ≡ some k
         → OthersInactive states j
         → (out : List (ℕ × Cell)) → OutsAreIn cells out
@@ -96,31 +104,34 @@ pub fn one_session_goes_on()
         → ClosesForDigest (may_anonymous_acts m)
         → (entries : List Entry) (images : List KeptImage) (times later : List ℕ)
         → Gains s entries images times t → Each (λ time. In time later) times
-        → SessionsStand v database size phase (lines ++ may_lines m) (moments ++ later)
+        → SessionsStand start phase (lines ++ may_lines m) (moments ++ later)
         (slice_set told j (told_with k entries images)) (slice_set cells i d) (slice_set states j t) }
-    ensures closes { (v : Server) (database : Text) (size : ℕ) (phase : Phase) (lines : List InputLine)
+    ensures closes { (v : Server) (database : Text) (size : ℕ) (past : Past) (start : RunStart v database size past)
+        (phase : Phase) (lines : List InputLine)
         (moments : List ℕ) (told : List SessionOutput) (cells : List Cell) (states : List SeatState)
-        → SessionsStand v database size phase lines moments told cells states
+        → SessionsStand start phase lines moments told cells states
         → (j : ℕ) (s : SeatState) → get_elem? states j ≡ some s → (k : SessionOutput) → get_elem? told j ≡ some k
         → OthersInactive states j
         → (l : LedgerCell) → get_elem? cells ledger_at ≡ some (Ledger l) → pending_in l ≡ size
         → (n : ℕ) (d : LedgerCell) → Closes v n l d
-        → SessionsStand v database size phase lines moments told (slice_set cells ledger_at (Ledger d))
+        → SessionsStand start phase lines moments told (slice_set cells ledger_at (Ledger d))
         states }
 {}
 
 /// Behind the last statement they may end; and once all have, the course is over.
 pub fn ended_sessions_are_a_sequential_run()
-    ensures may { (v : Server) (database : Text) (size : ℕ) (lines : List InputLine) (moments : List ℕ)
+    ensures may { (v : Server) (database : Text) (size : ℕ) (past : Past) (start : RunStart v database size past)
+        (lines : List InputLine) (moments : List ℕ)
         (told : List SessionOutput) (cells : List Cell) (states : List SeatState)
-        → SessionsStand v database size running lines moments told cells states
-        → SessionsStand v database size ending lines moments told cells states }
-    ensures over { (v : Server) (database : Text) (size : ℕ) (lines : List InputLine) (moments : List ℕ)
+        → SessionsStand start running lines moments told cells states
+        → SessionsStand start ending lines moments told cells states }
+    ensures over { (v : Server) (database : Text) (size : ℕ) (past : Past) (start : RunStart v database size past)
+        (lines : List InputLine) (moments : List ℕ)
         (told : List SessionOutput) (cells : List Cell) (states : List SeatState)
-        → SessionsStand v database size ending lines moments told cells states
+        → SessionsStand start ending lines moments told cells states
         → Each (λ s. IsAtRest s.role) states
         → (l : LedgerCell) → get_elem? cells ledger_at ≡ some (Ledger l)
         → pending_in l < size → l.next ≤ 2 ^ 63
-        → HasEnded v database size (names_told told) lines moments (map (λ k. k.transcript) told)
+        → HasEnded v database size past (names_told told) lines moments (map (λ k. k.transcript) told)
         (map (λ k. k.images) told) l.items l.issued }
 {}

@@ -40,7 +40,7 @@ returns-clause-one_thread g c =
     → (d : Digest) → In d G → (items : ℕ) → ComesBefore d.block items facts → d.block < blocks (cut J.items items) =
     λ q real facts order d is items comes.
     let closed = each_in (IsOfCut J.items (length J.items) G) G d (all_closed h J.database size names lines X kept J.items G run) is in
-    closed_in_order_of_lines c.digests_before_an_image_are_closed_in_it.ensures q size lines X J.items (run.agree q real).journal_is_theirs.legal
+    closed_in_order_of_lines c.digests_before_an_image_are_closed_in_it.ensures.first q size lines X J.items (run.agree q real).journal_is_theirs.legal
     facts order d.block items comes
     (subst (λ (K : List JournalItem). d.block < blocks K) (take_all (length J.items) J.items (omega arith)) closed.1) in
     record {

@@ -1,11 +1,18 @@
-use Rattle.std.specs.Prelude.{List}
+use Rattle.std.specs.Prelude.{List, length}
 use Rattle.std.proofs.Common.{subst}
+use Rattle.spec_model.specs.Journals.{tx_count}
 use Rattle.spec_history.specs.Facts.{Fact}
 use Rattle.spec_history.specs.StepOrder.{Counted, ItemsInOrder}
-use Rattle.law_sequential.proofs.ClosedBefore.{closed_before}
+use Rattle.law_behind.specs.Past.{since, unclosed}
+use Rattle.law_sequential.proofs.ClosedBefore.{closed_before, closed_behind}
 use Rattle.law_sequential.proofs.laws.digests_before_an_image_are_closed_in_it.Goals as goal
 
 pub returns : goal.returns
-returns g = λ q N lines X J rows legal order before after items is. closed_before N J 1 before after items legal.closings
-    (subst (λ (gs : List Fact). ItemsInOrder N 0 0 J gs) is order.items)
-    (subst (λ (gs : List Fact). Counted J 1 0 gs) is order.counted)
+returns g = record {
+  behind = λ q N past lines X J rows legal begins order before after items is. closed_behind N J past before after items begins legal.closings
+      (subst (λ (gs : List Fact). ItemsInOrder N (unclosed past.items) (length past.items) (since past J) gs) is order.items)
+      (subst (λ (gs : List Fact). Counted J past.next (tx_count past.items) gs) is order.counted);
+  first = λ q N lines X J rows legal order before after items is. closed_before N J 1 before after items legal.closings
+      (subst (λ (gs : List Fact). ItemsInOrder N 0 0 J gs) is order.items)
+      (subst (λ (gs : List Fact). Counted J 1 0 gs) is order.counted);
+}

@@ -3,4 +3,4 @@ use Rattle.law_sequential.proofs.SessionOutput.{is_legal}
 use Rattle.law_sequential.proofs.laws.journals_of_sequential_runs_are_legal.Goals as goal
 
 pub returns : goal.returns
-returns g = λ v database size names lines moments X images J G e named db good time. is_legal e v.reads refl named db good time
+returns g = λ v database size past names lines moments X images J G e named db good time. is_legal e v.reads refl named db good time

@@ -2,4 +2,4 @@ use Rattle.law_sequential.proofs.Goes.{session_more}
 use Rattle.law_sequential.proofs.laws.sessions_begin.Goals as goal
 
 pub returns : goal.returns
-returns g = λ v database size phase names lines cells seats c parent there present quiet name. session_more c parent there present quiet name
+returns g = λ v database size past start phase names lines cells seats c parent there present quiet name. session_more c parent there present quiet name

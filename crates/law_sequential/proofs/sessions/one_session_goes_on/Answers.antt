@@ -3,8 +3,8 @@ use Rattle.law_sequential.proofs.sessions.one_session_goes_on.Goals as goal
 
 pub returns : goal.returns
 returns g = record {
-  alone = λ v database size phase lines moments told cells states c j s there k is_told others t steps phased nameless entries images times later gains at. alone_on c j s there k is_told others t steps phased nameless entries images times later gains at;
-  over = λ v database size phase lines moments told cells states c j s there k is_told others t steps phased nameless entries later writes. over_now c j s there k is_told others t steps phased nameless entries later writes;
-  visits = λ v database size phase lines moments told cells states c j s there k is_told others out outs i d t m phased nameless l lies below digests entries images times later gains at. visit_on c j s there k is_told others out outs i d t m phased nameless l lies below digests entries images times later gains at;
-  closes = λ v database size phase lines moments told cells states c j s there k is_told others l lies is_full n d closes. close_on c j s there k is_told others l lies is_full n d closes;
+  alone = λ v database size past start phase lines moments told cells states c j s there k is_told others t steps phased nameless entries images times later gains at. alone_on c j s there k is_told others t steps phased nameless entries images times later gains at;
+  over = λ v database size past start phase lines moments told cells states c j s there k is_told others t steps phased nameless entries later writes. over_now c j s there k is_told others t steps phased nameless entries later writes;
+  visits = λ v database size past start phase lines moments told cells states c j s there k is_told others out outs i d t m phased nameless l lies below digests entries images times later gains at. visit_on c j s there k is_told others out outs i d t m phased nameless l lies below digests entries images times later gains at;
+  closes = λ v database size past start phase lines moments told cells states c j s there k is_told others l lies is_full n d closes. close_on c j s there k is_told others l lies is_full n d closes;
 }

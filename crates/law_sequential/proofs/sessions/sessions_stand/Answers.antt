@@ -3,6 +3,6 @@ use Rattle.law_sequential.proofs.sessions.sessions_stand.Goals as goal
 
 pub returns : goal.returns
 returns g = record {
-  first = λ v database size least most. sessions_stand_first v database size least most;
-  more = λ v database size phase lines moments told cells states c quiet name. one_session_more c quiet name;
+  first = λ v database size past start. sessions_stand_first start;
+  more = λ v database size past start phase lines moments told cells states c quiet name. one_session_more c quiet name;
 }

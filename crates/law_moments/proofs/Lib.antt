@@ -1,0 +1,3 @@
+mod AddsAt
+mod Keeps
+mod Steps
