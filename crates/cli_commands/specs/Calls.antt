@@ -8,8 +8,10 @@ use Rattle.cli_audit.specs.Calls.{AreGets, ArePuts, AreGetsAndPuts, AreGetsBefor
 -- what the vault answered, by the command
 abbrev pub AreCalls : Option Command → Status → List (Result ⊤ VaultErr) → Type 0
 AreCalls None status answers = answers ≡ []
-AreCalls (Some (Step save how)) status answers = ArePuts status answers
-AreCalls (Some (Run save how)) status answers = ArePuts status answers
+AreCalls (Some (Step save None how)) status answers = ArePuts status answers
+AreCalls (Some (Step save (Some journal) how)) status answers = AreGetsAndPuts 1 status answers
+AreCalls (Some (Run save None how)) status answers = ArePuts status answers
+AreCalls (Some (Run save (Some journal) how)) status answers = AreGetsAndPuts 1 status answers
 AreCalls (Some (Verify image digests workers)) status answers = AreGets 2 status answers
 AreCalls (Some (Replay journal save)) status answers = AreGetsAndPuts 1 status answers
 AreCalls (Some (Upgrade image save)) status answers = AreGetsAndPuts 1 status answers

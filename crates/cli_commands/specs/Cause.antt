@@ -10,6 +10,7 @@ use Rattle.cli_audit.specs.Check.{CheckCause}
 use Rattle.cli_audit.specs.Extract.{ExtractCause}
 use Rattle.cli_commands.specs.Input.{line_form, section_form}
 use Rattle.cli_audit.specs.Receipt.{ReceiptCause}
+use Rattle.cli_audit.specs.Past.{LacksPast}
 use Rattle.cli_audit.specs.Replay.{ReplayCause}
 use Rattle.cli_audit.specs.Tell.{TellCause}
 use Rattle.cli_audit.specs.Upgrade.{UpgradeCause}
@@ -17,16 +18,21 @@ use Rattle.cli_audit.specs.Verify.{VerifyCause}
 use Rattle.cli_commands.specs.Words.{wanted_of}
 use Rattle.cli_audit.specs.Wanted.TheVariants as wanted
 
+-- why no database goes on from the journal, where one is given
+abbrev pub PastLacks : Option (List ℕ) → Status → Option Names → Type 0 → Type 0
+PastLacks None status names vault = ⊥
+PastLacks (Some journal) status names vault = LacksPast status journal names vault
+
 -- Each command has its causes, by what the input and the vault tell and by whose faults rose in the call.
 -- Words comes exactly where the words say none, unless want of memory comes first: the words are read by
 -- means of memory.
 abbrev pub HasCause : Status → (List ℕ → List ℕ) → Option Command → Option (List ℕ) → Option Names
     → Type 0 → Type 0 → Type 0 → Type 0
 HasCause status h None input names source vault sink = (status ≡ Words) ⊎ (status ≡ Memory)
-HasCause status h (Some (Step save how)) input names source vault sink =
-    InputCause line_form status input source vault sink
-HasCause status h (Some (Run save how)) input names source vault sink =
-    InputCause section_form status input source vault sink
+HasCause status h (Some (Step save journal how)) input names source vault sink =
+    PastLacks journal status names vault ⊎ InputCause line_form status input source vault sink
+HasCause status h (Some (Run save journal how)) input names source vault sink =
+    PastLacks journal status names vault ⊎ InputCause section_form status input source vault sink
 HasCause status h (Some (Verify image digests workers)) input names source vault sink =
     VerifyCause status h image digests names vault sink
 HasCause status h (Some (Replay journal save)) input names source vault sink =

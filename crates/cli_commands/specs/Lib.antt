@@ -4,6 +4,7 @@ pub mod Cause
 pub mod Generated
 pub mod Input
 pub mod Run
+pub mod Start
 pub mod Words
 pub use Rattle.cli_audit.specs.Extract
 pub use Rattle.cli_audit.specs.Files

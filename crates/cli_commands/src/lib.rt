@@ -5,6 +5,7 @@ mod generate;
 mod part;
 mod run;
 mod saved;
+mod start;
 mod step;
 mod top;
 

@@ -17,12 +17,14 @@ ghost use Rattle.cli_commands.specs.Run.{IsRun, IsSavable, SectionsComeTo};
 ghost use Rattle.cli_audit.specs.Transfer.{input_limit};
 
 use crate::saved::save_and_write;
+use crate::start::start_cells;
 use base_io::{Clock, Gate, Sink, Source, Vault};
 use base_merkle::Hash32;
 use base_types::Memory;
 use cli_audit::{ReadErr, Status, read_input};
 use format_sections::{RunSections, SectionsErr, has_many_sessions, read_run_sections};
 use server_result::{RunOutcome, Settings};
+use server_step::Cell;
 use std::alloc::Global;
 use std::sync::Wait;
 use std::thread::Threads;
@@ -56,6 +58,7 @@ fn run_sections<H: Hash32, C: Clock, G: Gate, R: Threads + Wait + Sync>(
     alloc: Global,
     h: H,
     settings: Settings<'_>,
+    cells: Vec<Cell>,
     input: &[u8],
     clock: &C,
     gate: &G,
@@ -68,7 +71,7 @@ fn run_sections<H: Hash32, C: Clock, G: Gate, R: Threads + Wait + Sync>(
     ensures refused { IfErr result (λ status. IsRefused section_form status input.now) }
 {
     let all_sections = run_sections_of(alloc, input)?;
-    match run_all(rt, alloc, h, settings, &all_sections, clock, gate) {
+    match run_all(rt, alloc, h, settings, cells, &all_sections, clock, gate) {
         Ok(ran) => Ok(ran),
         Err(Memory) => Err(Status::Memory),
     }
@@ -81,6 +84,7 @@ fn run_and_save<H: Hash32, K: Sink, V: Vault, C: Clock, G: Gate, R: Threads + Wa
     h: H,
     save: &str,
     settings: Settings<'_>,
+    cells: Vec<Cell>,
     input: &[u8],
     sink: &mut K,
     vault: &mut V,
@@ -102,14 +106,14 @@ fn run_and_save<H: Hash32, K: Sink, V: Vault, C: Clock, G: Gate, R: Threads + Wa
         ((K.faults sink.new ≡ K.faults sink.old) × (K.stalls sink.new ≡ K.stalls sink.old)) }
     ensures unwritten { (result ≡ Status.Done → ⊥) → (result ≡ Status.SinkFault → ⊥) → sink.new ≡ sink.old }
 {
-    let ran = match run_sections(rt, alloc, h, settings, input, clock, gate) {
+    let ran = match run_sections(rt, alloc, h, settings, cells, input, clock, gate) {
         Ok(ran) => ran,
         Err(status) => return status,
     };
     save_and_write(alloc, save, ran, sink, vault)
 }
 
-/// Reads an input, runs it, puts its files and writes its transcripts.
+/// Makes the cells with which the database begins or goes on, reads an input, runs it, puts its files and writes its transcripts.
 pub(crate) fn run_side_by_side<
     H: Hash32,
     S: Source,
@@ -123,6 +127,7 @@ pub(crate) fn run_side_by_side<
     alloc: Global,
     h: H,
     save: &str,
+    from: Option<&str>,
     settings: Settings<'_>,
     source: &mut S,
     sink: &mut K,
@@ -148,6 +153,10 @@ pub(crate) fn run_side_by_side<
         ((K.faults sink.new ≡ K.faults sink.old) × (K.stalls sink.new ≡ K.stalls sink.old)) }
     ensures unwritten { (result ≡ Status.Done → ⊥) → (result ≡ Status.SinkFault → ⊥) → sink.new ≡ sink.old }
 {
+    let cells = match start_cells(alloc, h, from, settings, vault) {
+        Ok(cells) => cells,
+        Err(status) => return status,
+    };
     let input = match read_input(alloc, source) {
         Ok(input) => input,
         Err(ReadErr::Memory) => return Status::Memory,
@@ -155,6 +164,6 @@ pub(crate) fn run_side_by_side<
         Err(ReadErr::Failed) => return Status::SourceFault,
     };
     run_and_save(
-        rt, alloc, h, save, settings, &input, sink, vault, clock, gate,
+        rt, alloc, h, save, settings, cells, &input, sink, vault, clock, gate,
     )
 }

@@ -15,13 +15,14 @@ ghost use Rattle.cli_commands.specs.Run.{IsRun, IsSavable, LinesComeTo};
 ghost use Rattle.cli_audit.specs.Transfer.{input_limit};
 
 use crate::saved::save_and_write;
+use crate::start::start_cells;
 use base_io::{Clock, Sink, Source, Vault};
 use base_merkle::Hash32;
 use base_types::Memory;
 use cli_audit::{ReadErr, Status, read_input};
 use format_lines::{InputErr, Line, read_lines, session_names};
 use server_result::{RunOutcome, Settings};
-use server_step::run_lines;
+use server_step::{Cell, run_lines};
 use std::alloc::Global;
 
 /// The statements of an input by line, and the names of their sessions by first appearance.
@@ -57,6 +58,7 @@ fn run_input<H: Hash32, C: Clock>(
     alloc: Global,
     h: H,
     settings: Settings<'_>,
+    cells: Vec<Cell>,
     input: &[u8],
     clock: &C,
 ) -> Result<RunOutcome, Status>
@@ -68,7 +70,15 @@ fn run_input<H: Hash32, C: Clock>(
     ensures refused { IfErr result (λ status. IsRefused line_form status input.now) }
 {
     let read = statements(alloc, input)?;
-    match run_lines(alloc, h, settings, &read.sessions, &read.lines, clock) {
+    match run_lines(
+        alloc,
+        h,
+        settings,
+        cells,
+        &read.sessions,
+        &read.lines,
+        clock,
+    ) {
         Ok(ran) => Ok(ran),
         Err(Memory) => Err(Status::Memory),
     }
@@ -80,6 +90,7 @@ fn run_and_save<H: Hash32, K: Sink, V: Vault, C: Clock>(
     h: H,
     save: &str,
     settings: Settings<'_>,
+    cells: Vec<Cell>,
     input: &[u8],
     sink: &mut K,
     vault: &mut V,
@@ -100,18 +111,19 @@ fn run_and_save<H: Hash32, K: Sink, V: Vault, C: Clock>(
         ((K.faults sink.new ≡ K.faults sink.old) × (K.stalls sink.new ≡ K.stalls sink.old)) }
     ensures unwritten { (result ≡ Status.Done → ⊥) → (result ≡ Status.SinkFault → ⊥) → sink.new ≡ sink.old }
 {
-    let ran = match run_input(alloc, h, settings, input, clock) {
+    let ran = match run_input(alloc, h, settings, cells, input, clock) {
         Ok(ran) => ran,
         Err(status) => return status,
     };
     save_and_write(alloc, save, ran, sink, vault)
 }
 
-/// Reads an input, runs it, puts its files and writes its transcript.
+/// Makes the cells with which the database begins or goes on, reads an input, runs it, puts its files and writes its transcript.
 pub(crate) fn step<H: Hash32, S: Source, K: Sink, V: Vault, C: Clock>(
     alloc: Global,
     h: H,
     save: &str,
+    from: Option<&str>,
     settings: Settings<'_>,
     source: &mut S,
     sink: &mut K,
@@ -136,11 +148,15 @@ pub(crate) fn step<H: Hash32, S: Source, K: Sink, V: Vault, C: Clock>(
         ((K.faults sink.new ≡ K.faults sink.old) × (K.stalls sink.new ≡ K.stalls sink.old)) }
     ensures unwritten { (result ≡ Status.Done → ⊥) → (result ≡ Status.SinkFault → ⊥) → sink.new ≡ sink.old }
 {
+    let cells = match start_cells(alloc, h, from, settings, vault) {
+        Ok(cells) => cells,
+        Err(status) => return status,
+    };
     let input = match read_input(alloc, source) {
         Ok(input) => input,
         Err(ReadErr::Memory) => return Status::Memory,
         Err(ReadErr::TooMuch) => return Status::Limit,
         Err(ReadErr::Failed) => return Status::SourceFault,
     };
-    run_and_save(alloc, h, save, settings, &input, sink, vault, clock)
+    run_and_save(alloc, h, save, settings, cells, &input, sink, vault, clock)
 }

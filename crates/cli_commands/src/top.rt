@@ -287,14 +287,22 @@ pub fn ledgerd<S: Source, K: Sink, V: Vault, C: Clock, G: Gate, R: Threads + Wai
         Err(Memory) => return Status::Memory,
     };
     match command {
-        Command::Step { save, settings } => {
+        Command::Step {
+            save,
+            from,
+            settings,
+        } => {
             step(
-                alloc, Sha256Hash, save, settings, source, sink, vault, clock,
+                alloc, Sha256Hash, save, from, settings, source, sink, vault, clock,
             )
         }
-        Command::Run { save, settings } => {
+        Command::Run {
+            save,
+            from,
+            settings,
+        } => {
             run_side_by_side(
-                rt, alloc, Sha256Hash, save, settings, source, sink, vault, clock, gate,
+                rt, alloc, Sha256Hash, save, from, settings, source, sink, vault, clock, gate,
             )
         }
         Command::Verify {

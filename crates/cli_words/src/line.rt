@@ -18,12 +18,14 @@ fn running_command<'a>(alloc: Global, name: &'a str) -> Result<Command<'a>, Allo
         ≡ app_with name.now (operands_of Subcommand.Step) (options_of Subcommand.Step)) }
 {
     let save = Arg::new(alloc, "save").long("save");
+    let from = Arg::new(alloc, "from").long("from");
     let block_size = Arg::new(alloc, "block-size").long("block-size");
     let clock = Arg::new(alloc, "clock").long("clock");
     let database = Arg::new(alloc, "database").long("database");
     Command::new(alloc, name)
         .disable_help_flag(true)
         .arg(save)?
+        .arg(from)?
         .arg(block_size)?
         .arg(clock)?
         .arg(database)

@@ -31,6 +31,8 @@ enum Fault {
     TooMany,
     /// A path stands in the place of a name.
     Path,
+    /// The journal says it.
+    OfJournal,
     /// It lacks the form of a value.
     Form(Form),
 }
@@ -111,7 +113,7 @@ fn operand_at(which: Subcommand, place: usize) -> Option<&'static str> {
 fn has_option(which: Subcommand, name: &str) -> bool {
     match which {
         Subcommand::Step | Subcommand::Run => {
-            matches!(name, "save" | "block-size" | "clock" | "database")
+            matches!(name, "save" | "from" | "block-size" | "clock" | "database")
         }
         Subcommand::Verify => name == "workers",
         Subcommand::Receipt => matches!(name, "save" | "table" | "event"),
@@ -249,6 +251,9 @@ fn missing<'a>(which: Subcommand, words: &[String], scan: &Scan<'a>) -> Option<R
     if has_option(which, "save") && !is_given(words, "save") {
         return of_option("save", Fault::NotGiven);
     }
+    if is_given(words, "from") && is_given(words, "database") {
+        return of_option("database", Fault::OfJournal);
+    }
     if is_given(words, "event") && !is_given(words, "table") {
         return of_option("table", Fault::NotGiven);
     }
@@ -319,6 +324,7 @@ impl fmt::Display for Fault {
             Fault::GivenTwice => f.write_str("given twice"),
             Fault::TooMany => f.write_str("one word too many"),
             Fault::Path => f.write_str("files are those of the current folder, by name"),
+            Fault::OfJournal => f.write_str("the journal that `--from` names says it"),
             Fault::Form(form) => write!(f, "{form}"),
         }
     }

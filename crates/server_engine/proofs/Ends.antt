@@ -38,7 +38,7 @@ use Rattle.server_visits.proofs.ImagesOfCells.{bytes_are_the_journals}
 use Rattle.server_engine.specs.CoreInput.{CoreInput, nothing_asked, with_session}
 use Rattle.server_engine.specs.FirstCells.{first_kept}
 use Rattle.server_engine.specs.Parts.{HasLeft}
-use Rattle.server_engine.specs.Standing.{entry_texts, cells_seen, seats_seen, pending_at, pending_found, Pairwise, Shows, SitsOrIsOver, IsInactive, IsTimed, OnServer, Holds, Stands, IsEnded}
+use Rattle.server_engine.specs.Standing.{entry_texts, cells_seen, seats_seen, pending_at, pending_found, Pairwise, Shows, SitsOrIsOver, IsInactive, IsTimed, OnServer, Holds, MayBegin, Stands, IsEnded}
 use Rattle.server_engine.specs.Written.{texts_shown}
 use Rattle.server_engine.specs.declared.one_thread.Core.{Core}
 use Rattle.server_engine.specs.declared.parts.Parts.{Parts}
@@ -56,11 +56,9 @@ use Rattle.server_engine.proofs.Turns.{stand_at_end}
 
 -- ---- the beginning
 
-pub begins : {H : Type 0} (digest : H → List ℕ → List ℕ) (h : H) (database : Text) (size : ℕ) → 1 ≤ size → size ≤ max_block → (c : Core H) → c.hasher ≡ h → c.cells.items ≡ first_kept database size → c.sessions.items ≡ []
-    → Stands digest h c (nothing_asked database size)
-begins {H} digest h database size least most c hasher cells_are sessions_are = record {
-  hasher = hasher;
-  holds = subst₂ (λ (cs : List KeptCell) (ys : List (Session H)). Holds digest h cs ys (nothing_asked database size)) (sym cells_are) (sym sessions_are) (record {
+pub first_begins : {H : Type 0} (digest : H → List ℕ → List ℕ) (h : H) (database : Text) (size : ℕ) → 1 ≤ size → size ≤ max_block → MayBegin digest h (first_kept database size) (nothing_asked database size)
+first_begins digest h database size least most = record {
+  holds = record {
     told = [];
     names = refl;
     shown = tt;
@@ -71,9 +69,17 @@ begins {H} digest h database size least most c hasher cells_are sessions_are = r
       stand = subst (λ (cs : List Cell). SessionsStand v database size running [] [] [] cs []) (sym (first_same database size)) (sessions_stand_first v database size least most);
       sit = tt;
     };
-  });
+  };
+  below = omega (arith, least);
+}
+
+pub begins_over : {H : Type 0} (digest : H → List ℕ → List ℕ) (h : H) (cells : List KeptCell) (a : CoreInput) → MayBegin digest h cells a
+    → (c : Core H) → c.hasher ≡ h → c.cells.items ≡ cells → c.sessions.items ≡ [] → Stands digest h c a
+begins_over {H} digest h cells a m c hasher cells_are sessions_are = record {
+  hasher = hasher;
+  holds = subst₂ (λ (cs : List KeptCell) (ys : List (Session H)). Holds digest h cs ys a) (sym cells_are) (sym sessions_are) m.holds;
   quiet = subst (λ (ys : List (Session H)). Each IsInactive (seats_seen ys)) (sym sessions_are) tt;
-  below = subst (λ (cs : List KeptCell). pending_at (cells_seen cs) < size) (sym cells_are) (omega (arith, least));
+  below = subst (λ (cs : List KeptCell). pending_at (cells_seen cs) < a.size) (sym cells_are) m.below;
 }
 
 -- ---- a session more

@@ -98,6 +98,11 @@ pub record Stands {H : Type 0} (digest : H → List ℕ → List ℕ) (h : H) (c
   pub quiet : Each IsInactive (seats_seen c.sessions.items)
   pub below : pending_at (cells_seen c.cells.items) < a.size
 
+-- a server has begun with these cells, of which this was asked: no session
+pub record MayBegin {H : Type 0} (digest : H → List ℕ → List ℕ) (h : H) (cells : List KeptCell) (a : CoreInput) : Type 0 where
+  pub holds : Holds digest h cells [] a
+  pub below : pending_at (cells_seen cells) < a.size
+
 -- something was asked of it
 pub record IsStanding {H : Type 0} (digest : H → List ℕ → List ℕ) (c : Core H) : Type 0 where
   pub h : H

@@ -1,18 +1,16 @@
 //! The core of one thread.
 
-ghost use Rattle.std.specs.Prelude.{ℕ, ◌≡◌, ◌<◌, ◌≤◌, List, true, length, IfOk, OnErr, OnOk};
+ghost use Rattle.std.specs.Prelude.{ℕ, ◌≡◌, ◌<◌, List, true, length, IfOk, OnErr, OnOk};
 ghost use mathlib.Core.Option.{some};
 ghost use lib.ListN.{get_elem?};
 ghost use Rattle.base_types.specs.Moment.{is_moment};
 ghost use Rattle.base_types.specs.SessionName.{is_session_name};
-ghost use Rattle.sql_types.specs.declared.journal.TheConstants.{MAX_BLOCK};
 ghost use Rattle.law_sequential.specs.EndsLast.{running, ending};
-ghost use Rattle.server_engine.specs.CoreInput.{CoreInput, nothing_asked, with_session, with_line, at_end};
+ghost use Rattle.server_engine.specs.CoreInput.{CoreInput, with_session, with_line, at_end};
 ghost use Rattle.server_engine.specs.IsMidway.{IsAtSessionEnd, IsBelow, IsBetweenThen, IsInStatement, IsOverThen, IsUnchanged, IsWithin, MayAnswer, MayLeave, IsMidway, TookUp, ChangesSession};
 ghost use Rattle.server_engine.specs.Parts.{HasLeft, IsDone};
-ghost use Rattle.server_engine.specs.Standing.{IsEnded, IsOpen, IsStanding, MayTakeStatement, OthersStay, Stands};
+ghost use Rattle.server_engine.specs.Standing.{IsEnded, IsOpen, IsStanding, MayBegin, MayTakeStatement, OthersStay, Stands};
 
-use crate::cells::first_cells;
 use crate::parts::{Parts, write_last_lines};
 use crate::session::{Session, new_session};
 use crate::visits::LEDGER;
@@ -31,20 +29,16 @@ pub struct Core<H: Hash32> {
 }
 
 impl<H: Hash32> Core<H> {
-    /// The core of a database without transactions, whose blocks take at most so many entries; no session
-    /// has begun.
-    pub fn new(alloc: Global, hasher: H, database: Name, block_size: u32) -> Result<Core<H>, Memory>
-        requires some { 1 ≤ block_size }
-        requires most { block_size ≤ MAX_BLOCK }
-        ensures { IfOk result (λ core. Stands H.digest hasher core (nothing_asked database block_size)) }
+    /// The core of a database with these cells, with which it begins or goes on; no session has begun. Takes no
+    /// memory.
+    pub fn over(alloc: Global, hasher: H, cells: Vec<Cell>) -> Core<H>
+        ensures { (a : CoreInput) → MayBegin H.digest hasher cells.items a → Stands H.digest hasher result a }
     {
-        let cells = first_cells(alloc, database, block_size)?;
-        let sessions = Vec::new(alloc);
-        Ok(Core {
+        Core {
             hasher,
             cells,
-            sessions,
-        })
+            sessions: Vec::new(alloc),
+        }
     }
 
     /// A session begins. Its number is that of the sessions before it. For want of memory nothing changes.

@@ -8,7 +8,7 @@ use Rattle.server_thread.proofs.FirstCells.{first_keep, first_same}
 use Rattle.spec_history.specs.Lists.{Text}
 use Rattle.spec_model.specs.Limits.{max_block}
 use Rattle.server_session.specs.KeptCell.{KeptCell, Keeps}
-use Rattle.spec_protocol.specs.Cells.{Cell, Ledger, LedgerCell, cell_count, first_cells, first_ledger, ledger_at}
+use Rattle.spec_protocol.specs.Cells.{Cell, Catalog, Ledger, LedgerCell, Rows, cell_count, first_cells, first_ledger, ledger_at}
 use Rattle.spec_protocol.specs.AllowedVisit.{first_seat}
 use Rattle.spec_protocol.specs.StandTogether.{Stands, StandTogether}
 use Rattle.server_thread.proofs.Beginning.{begins, none_asked, none_requested}
@@ -36,3 +36,11 @@ module _ (d : ServedDatabase) (database : Text) (size : ℕ) (some_size : 1 ≤ 
 
 pub first_count : (database : Text) (size : ℕ) → length (first_kept database size) ≡ cell_count
 first_count database size = refl
+
+-- nobody has written anything at the first seat
+pub wrote_nothing : (cells : List Cell) → (first_seat cells).written ≡ []
+wrote_nothing [] = refl
+wrote_nothing (c ∷ []) = refl
+wrote_nothing (c ∷ Catalog x ∷ cs) = refl
+wrote_nothing (c ∷ Ledger x ∷ cs) = refl
+wrote_nothing (c ∷ Rows x ∷ cs) = refl

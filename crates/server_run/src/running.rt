@@ -10,6 +10,7 @@ ghost use Rattle.server_result.specs.Moments.{said_with};
 ghost use Rattle.law_concurrent.specs.CameTo.{RunResult};
 ghost use Rattle.sql_types.specs.declared.digest.Digest.{Digest};
 ghost use Rattle.sql_types.specs.declared.journal.TheConstants.{MAX_BLOCK};
+ghost use Rattle.server_run.specs.MayBegin.{MayBegin};
 ghost use Rattle.server_run.specs.CameTo.{CameTo, IsClosed, IsOf, and_digests};
 
 use crate::whole::run_over;
@@ -23,6 +24,7 @@ use law_concurrent::{
 };
 use law_snapshots::snapshots_are_of_serial_runs;
 use server_ending::{close_all, left_by, left_closed};
+use server_engine::Cell;
 use server_reader::images_of_cuts_are_encodable;
 use server_result::{RunOutcome, Settings, is_encodable, moment};
 use std::alloc::Global;
@@ -43,9 +45,9 @@ fn statement_count(all_sections: &RunSections<'_>) -> u32
     count as u32
 }
 
-/// Runs the plan on an empty database: the setup to its end, as the session `setup`, and then all sessions
-/// side by side, each in a thread of its own, while a builder closes blocks. What is written and saved of it
-/// agrees with what was answered, however the turns of sessions and builder fall.
+/// Runs the plan over the cells with which a database begins or goes on: the setup to its end, as the session `setup`,
+/// and then all sessions side by side, each in a thread of its own, while a builder closes blocks. What is written and
+/// saved of it agrees with what was answered, however the turns of sessions and builder fall.
 ///
 /// A snapshot is a session that runs `SAVE IMAGE` alone. Behind its end its thread visits no cell any more: it answers
 /// the texts of the snapshot over the image that was kept, while other sessions go on.
@@ -59,10 +61,12 @@ pub fn run_all<H: Hash32, C: Clock, G: Gate, R: Threads + Wait + Sync>(
     alloc: Global,
     hasher: H,
     how: Settings<'_>,
+    cells: Vec<Cell>,
     all_sections: &RunSections<'_>,
     clock: &C,
     gate: &G,
 ) -> Result<RunOutcome, Memory>
+    requires begins { MayBegin (H.digest hasher) how.database.now how.block_size cells.items }
     requires database { is_database_name how.database.now ≡ true }
     requires some { 1 ≤ how.block_size }
     requires most { how.block_size ≤ MAX_BLOCK }
@@ -80,6 +84,7 @@ pub fn run_all<H: Hash32, C: Clock, G: Gate, R: Threads + Wait + Sync>(
         alloc,
         hasher,
         how,
+        cells,
         all_sections,
         visits,
         clock,
@@ -102,10 +107,12 @@ pub fn run_and_close<H: Hash32, C: Clock, G: Gate, R: Threads + Wait + Sync>(
     alloc: Global,
     hasher: H,
     how: Settings<'_>,
+    cells: Vec<Cell>,
     all_sections: &RunSections<'_>,
     clock: &C,
     gate: &G,
 ) -> Result<RunOutcome, Memory>
+    requires begins { MayBegin (H.digest hasher) how.database.now how.block_size cells.items }
     requires database { is_database_name how.database.now ≡ true }
     requires some { 1 ≤ how.block_size }
     requires most { how.block_size ≤ MAX_BLOCK }
@@ -124,6 +131,7 @@ pub fn run_and_close<H: Hash32, C: Clock, G: Gate, R: Threads + Wait + Sync>(
         alloc,
         hasher,
         how,
+        cells,
         all_sections,
         visits,
         clock,

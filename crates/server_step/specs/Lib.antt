@@ -6,3 +6,4 @@ pub mod Reached
 pub mod Woven
 pub mod Written
 pub use Rattle.server_engine.specs.SessionOutput
+pub use Rattle.server_engine.specs.FirstCells

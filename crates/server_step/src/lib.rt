@@ -9,3 +9,4 @@ mod sessions;
 mod weaving;
 
 pub use running::run_lines;
+pub use server_engine::{Cell, first_cells, first_cells_may_begin};

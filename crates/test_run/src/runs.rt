@@ -5,7 +5,7 @@ ghost use Rattle.std.specs.Prelude.{◌≤◌};
 use crate::gates::TestGate;
 use crate::hashes::CountingHash;
 use base_io::FixedClock;
-use base_types::first_of;
+use base_types::{Name, first_of};
 use format_sections::read_run_sections;
 use server_result::{RunOutcome, Settings};
 use sql_types::JournalItem;
@@ -13,7 +13,7 @@ use std::sync::Wait;
 use std::sync::atomic::AtomicU64;
 use std::test::Fail;
 use std::thread::Threads;
-use workload_run::run_all;
+use workload_run::{first_cells, run_all, runs_may_begin_with_the_first_cells};
 
 /// The longest input that is run here, in bytes.
 const MOST_INPUT: usize = 1_000_000;
@@ -53,10 +53,25 @@ fn run<R: Threads + Wait + AllocGlobal + Sync>(
     let clock = FixedClock { at: 0 };
     let count = AtomicU64::new(0);
     let hash = CountingHash { count: &count };
+    // A law: it does nothing.
+    runs_may_begin_with_the_first_cells();
+    let database = Name::of_str(rt.alloc(), how.database).ok().ok_or("memory")?;
+    let cells = first_cells(rt.alloc(), database, block_size)
+        .ok()
+        .ok_or("memory")?;
     Ok(
-        run_all(rt, rt.alloc(), hash, how, &all_sections, &clock, gate)
-            .ok()
-            .ok_or("memory")?,
+        run_all(
+            rt,
+            rt.alloc(),
+            hash,
+            how,
+            cells,
+            &all_sections,
+            &clock,
+            gate,
+        )
+        .ok()
+        .ok_or("memory")?,
     )
 }
 

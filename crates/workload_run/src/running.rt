@@ -14,13 +14,13 @@ use crate::report::{CountedRun, Report};
 use audit_verify::verify_image;
 use base_io::{FixedClock, OpenGate};
 use base_merkle::Hash32;
-use base_types::Memory;
+use base_types::{Memory, Name};
 use format_image::read_image;
 use law_catalog_text::readings_of_the_grammar_give_written;
 use law_image::legal_images_are_encodable;
 use law_workload::{runs_of_the_workload_take_turns, texts_are_read, turns_come_to_one_end};
 use server_result::{RunOutcome, Settings};
-use server_run::run_and_close;
+use server_run::{first_cells, run_and_close, runs_may_begin_with_the_first_cells};
 use sql_types::{Digest, HeldDigest, Image};
 use std::alloc::Global;
 use std::sync::Wait;
@@ -52,13 +52,17 @@ fn run<H: Hash32, R: Threads + Wait + Sync>(
 {
     let texts = Workload::new(alloc, rows)?;
     let all_sections = texts.all_sections(alloc)?;
-    // A law: it does nothing.
+    let database = Name::of_str(alloc, SETTINGS.database)?;
+    let cells = first_cells(alloc, database, SETTINGS.block_size)?;
+    // Laws: they do nothing.
+    runs_may_begin_with_the_first_cells();
     statements_law();
     run_and_close(
         rt,
         alloc,
         hasher,
         SETTINGS,
+        cells,
         &all_sections,
         &FixedClock { at: 0 },
         &OpenGate,

@@ -9,6 +9,13 @@ use Rattle.server_run.proofs.Leaves.{cells_stand, is_of, joined_so, left_of}
 use Rattle.server_run.proofs.Sizes.{are_runnable, few_sessions, size_is}
 use Rattle.server_run.proofs.running.run_all.Goals as goal
 
+pub run_over-requires-clause-stand : goal.run_over-requires-clause-stand
+run_over-requires-clause-stand g c κs within =
+    let v = some_server (g.H.Hash32.digest c.args.hasher) statement_of in c.requires.begins.stand v.0 v.1
+
+pub run_over-requires-clause-count : goal.run_over-requires-clause-count
+run_over-requires-clause-count g c κs within = c.requires.begins.count
+
 pub run_over-requires-clause-runnable : goal.run_over-requires-clause-runnable
 run_over-requires-clause-runnable g c κs within = are_runnable c.args.all_sections.now c.requires.few c.requires.names
 

@@ -10,14 +10,12 @@ use Rattle.server_run.specs.FinishedRun.{setup_name}
 use Rattle.server_thread.specs.Seated.{known_by, texts_in}
 use Rattle.server_thread.specs.Wrote.{HasWritten}
 use Rattle.server_run.specs.AllWrote.{HaveWritten}
-use Rattle.server_run.proofs.FirstStand.{first_stand}
+use Rattle.server_run.proofs.FirstStand.{wrote_nothing}
 use Rattle.server_run.proofs.WholeRun.{has_finished}
 use Rattle.server_run.proofs.whole.run_over.Goals as goal
 
 pub new-requires-clause-stand : goal.new-requires-clause-stand
-new-requires-clause-stand g c =
-    subst (λ (cells : List KeptCell). StandsOn (λ (k : KeptCell). k.cell) Keeps g.K.Serving.database cells (first_seat (map (λ (k : KeptCell). k.cell) cells) ∷ [])) (sym c.in_ok-cells.ensures)
-    (first_stand g.K.Serving.database c.in_ok-database.database c.args.how.block_size c.requires.some c.requires.most (c.requires.database ∙ sym c.in_ok-database.ensures) c.requires.size)
+new-requires-clause-stand g c = c.requires.stand
 
 pub returns : goal.returns
 returns g c =
@@ -28,7 +26,7 @@ returns g c =
     let last = seat_state c.in_ok-place.place in
     let stand = c.close_with.ensures.stand in
     has_finished g.K.Serving.database says (texts_in all_sections.setup.items) all_sections.sessions.items (record { cells = c.close_with.result; setup = c.in_ok-setup.setup; ends = c.in_ok-place.ends }) stand.0 stand.1 first behind_setup last
-    (ap (λ (s : SeatState). s.written) c.in_ok-board.ensures.seat.1 ∙ subst (λ (cells : List KeptCell). (first_seat (map (λ (k : KeptCell). k.cell) cells)).written ≡ []) (sym c.in_ok-cells.ensures) refl)
+    (ap (λ (s : SeatState). s.written) c.in_ok-board.ensures.seat.1 ∙ wrote_nothing (map (λ (k : KeptCell). k.cell) c.args.cells.items))
     c.in_ok-setup.ensures.idle (known_by (split first 1))
     (subst (λ (texts : List (Bor (List ℕ))). HasWritten says setup_name (texts_in texts) c.in_ok-setup.setup (known_by (split first 1)) first.written behind_setup) c.deref.ensures.value c.in_ok-setup.ensures.wrote)
     (subst (λ (sections : List Section). HaveWritten says sections c.in_ok-place.ends.items behind_setup last) c.deref-2.ensures.value c.in_ok-place.ensures.wrote)
