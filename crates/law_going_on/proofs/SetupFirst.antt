@@ -67,8 +67,8 @@ module _ (v : Server) (database : Text) (size : ℕ) (start : Start v database s
   abbrev h : History
   h = start.history ++ events
 
-  abbrev W0 : World
-  W0 = run first start.history
+  abbrev past_world : World
+  past_world = run first start.history
 
   abbrev at : ℕ → SessionState
   at = (run first h).at
@@ -79,7 +79,7 @@ module _ (v : Server) (database : Text) (size : ℕ) (start : Start v database s
   abbrev since : History
   since = without start.count events
 
-  abbrev g0 : Good v.meaning st.ledger.database W0 events
+  abbrev g0 : Good v.meaning st.ledger.database past_world events
   g0 = (parts v database size start events cells seats st).1
 
   -- ---- the session of that transcript
@@ -98,7 +98,7 @@ module _ (v : Server) (database : Text) (size : ℕ) (start : Start v database s
 
   not_before : (n : ℕ) → n < start.count → transcript_of (at n) ≡ x → ⊥
   not_before n l e =
-      let kept : transcript_of (at n) ≡ transcript_of (W0.at n) = ap transcript_of (as_it_was v database size start events cells seats st n l) in
+      let kept : transcript_of (at n) ≡ transcript_of (past_world.at n) = ap transcript_of (as_it_was v database size start events cells seats st n l) in
       let same : start.count + u ≡ n = same_one v database size start events cells seats st (start.count + u) n l its_gone (its.1 ∙ sym e ∙ kept) in
       absurd (omega (arith, l, same))
 
@@ -139,28 +139,28 @@ module _ (v : Server) (database : Text) (size : ℕ) (start : Start v database s
 
   over_since : ((run first since).at u).phase ≡ gone
   over_since = ap (λ (f : ℕ → SessionState). (f u).phase) (sessions_behind start.past since)
-      ∙ ap (λ (z : SessionState). z.phase) ((forgotten v.meaning st.ledger.database start.count events W0 (behind start.past) start.over g0).1.at u)
+      ∙ ap (λ (z : SessionState). z.phase) ((forgotten v.meaning st.ledger.database start.count events past_world (behind start.past) start.over g0).1.at u)
       ∙ ap (λ (w : World). (w.at (start.count + u)).phase) (sym (run_append first start.history events)) ∙ its_gone
 
   cut_behind : (s : ℕ) → BeganAfter h (start.count + u) (start.count + s) → BeganAfter since u s
   cut_behind s b = ⊎_elim
       (λ (l : Longer start.history events b.before b.after).
-      let g1 : Good v.meaning st.ledger.database W0 l.more = (good_append v.meaning st.ledger.database W0 l.more b.after (subst (Good v.meaning st.ledger.database W0) l.rest g0)).0 in
-      let z : IsWithout start.count (run W0 l.more) (run (behind start.past) (without start.count l.more)) = (forgotten v.meaning st.ledger.database start.count l.more W0 (behind start.past) start.over g1).1 in
+      let g1 : Good v.meaning st.ledger.database past_world l.more = (good_append v.meaning st.ledger.database past_world l.more b.after (subst (Good v.meaning st.ledger.database past_world) l.rest g0)).0 in
+      let z : IsWithout start.count (run past_world l.more) (run (behind start.past) (without start.count l.more)) = (forgotten v.meaning st.ledger.database start.count l.more past_world (behind start.past) start.over g1).1 in
       record {
         before = without start.count l.more;
         after = without start.count b.after;
         is = ap (without start.count) l.rest ∙ without_append start.count l.more b.after;
         over = ap (λ (f : ℕ → SessionState). (f u).phase) (sessions_behind start.past (without start.count l.more)) ∙ ap (λ (y : SessionState). y.phase) (z.at u)
             ∙ ap (λ (w : World). (w.at (start.count + u)).phase) (sym (run_append first start.history l.more)) ∙ ap (λ (es : List Act). ((run first es).at (start.count + u)).phase) (sym l.front) ∙ b.over;
-        none = of_without v.meaning st.ledger.database start.count s l.more W0 (behind start.past) start.over g1
+        none = of_without v.meaning st.ledger.database start.count s l.more past_world (behind start.past) start.over g1
             ∙ nil_behind (of (start.count + s) start.history) (of (start.count + s) l.more) (sym (of_append (start.count + s) start.history l.more) ∙ ap (of (start.count + s)) (sym l.front) ∙ b.none);
       })
       (λ (l : Longer b.before b.after start.history events). absurd (
       let g1 : Good v.meaning st.ledger.database first (b.before ++ l.more) = subst (Good v.meaning st.ledger.database first) l.front (parts v database size start events cells seats st).0 in
       let still : ((run (run first b.before) l.more).at (start.count + u)).phase ≡ gone = (silent v.meaning st.ledger.database (start.count + u) (run first b.before) l.more b.over (good_append v.meaning st.ledger.database first b.before l.more g1).1).1 in
-      let gone_there : (W0.at (start.count + u)).phase ≡ gone = ap (λ (es : List Act). ((run first es).at (start.count + u)).phase) l.front ∙ ap (λ (w : World). (w.at (start.count + u)).phase) (run_append first b.before l.more) ∙ still in
-      let fresh_there : unborn ≡ (W0.at (start.count + u)).phase = ap (λ (z : SessionState). z.phase) (start.over.at u) in
+      let gone_there : (past_world.at (start.count + u)).phase ≡ gone = ap (λ (es : List Act). ((run first es).at (start.count + u)).phase) l.front ∙ ap (λ (w : World). (w.at (start.count + u)).phase) (run_append first b.before l.more) ∙ still in
+      let fresh_there : unborn ≡ (past_world.at (start.count + u)).phase = ap (λ (z : SessionState). z.phase) (start.over.at u) in
       let e : unborn ≡ gone = fresh_there ∙ gone_there in cc))
       (fronts start.history events b.before b.after b.is)
 

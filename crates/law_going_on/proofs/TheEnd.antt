@@ -112,8 +112,8 @@ module _ (v : Server) (database : Text) (size : ℕ) (start : Start v database s
   abbrev all_seats : List SeatState
   all_seats = start.seat ∷ seats
 
-  abbrev W0 : World
-  W0 = run first start.history
+  abbrev past_world : World
+  past_world = run first start.history
 
   abbrev W : World
   W = run first h
@@ -228,8 +228,8 @@ module _ (v : Server) (database : Text) (size : ℕ) (start : Start v database s
   abbrev V : World
   V = run (behind start.past) since
 
-  left : Good v.meaning st.ledger.database (behind start.past) since × IsWithout start.count (run W0 events) V
-  left = forgotten v.meaning st.ledger.database start.count events W0 (behind start.past) start.over (parts v database size start events cells seats st).1
+  left : Good v.meaning st.ledger.database (behind start.past) since × IsWithout start.count (run past_world events) V
+  left = forgotten v.meaning st.ledger.database start.count events past_world (behind start.past) start.over (parts v database size start events cells seats st).1
 
   at_is : (i : ℕ) → V.at i ≡ W.at (start.count + i)
   at_is i = left.1.at i ∙ ap (λ (w : World). w.at (start.count + i)) (sym (splits v database size start events cells seats st))
@@ -250,7 +250,7 @@ module _ (v : Server) (database : Text) (size : ℕ) (start : Start v database s
       (whole_end.below st.transcripts_agree.count h (λ n l. (st.transcripts_agree.no_others n l).1))
 
   pub some_below : SessionsBelow (length X) since
-  some_below = below_without v.meaning st.ledger.database start.count (length X) events W0 (behind start.past) start.over (parts v database size start events cells seats st).1 (below_behind (start.count + length X) start.history events all_below)
+  some_below = below_without v.meaning st.ledger.database start.count (length X) events past_world (behind start.past) start.over (parts v database size start events cells seats st).1 (below_behind (start.count + length X) start.history events all_below)
 
   pub are_written : AreWrittenBehind start.count events seats input X
   are_written = record { sessions = sessions; below = some_below; written = written_at; all = all_there }
@@ -261,9 +261,9 @@ module _ (v : Server) (database : Text) (size : ℕ) (start : Start v database s
   none_then : (n : ℕ) → length X ≤ n → (V.at n).phase ≡ unborn
   none_then n l = ap (λ (x : SessionState). x.phase) (at_is n ∙ (st.transcripts_agree.no_others (start.count + n) (let k = length_is in let e = all_together in omega (arith, l, k, e))).0)
 
-  pub in_order_then : BeginInTurn W0 events → map (λ x. x.session) X ≡ names_begun (map anonymous_act events)
+  pub in_order_then : BeginInTurn past_world events → map (λ x. x.session) X ≡ names_begun (map anonymous_act events)
   in_order_then turn = in_their_order v.meaning st.ledger.database (behind start.past) since left.0
-      (turn_without v.meaning st.ledger.database start.count events W0 (behind start.past) start.over (parts v database size start events cells seats st).1 turn)
+      (turn_without v.meaning st.ledger.database start.count events past_world (behind start.past) start.over (parts v database size start events cells seats st).1 turn)
       (λ n. refl) input X (subst (λ (f : ℕ → SessionState). AreOf f 0 input X) (sessions_behind start.past since) sessions) over_then none_then
       ∙ ap names_begun (same_acts start.count events)
 
@@ -280,17 +280,17 @@ module _ (v : Server) (database : Text) (size : ℕ) (start : Start v database s
 
   -- ---- step order
 
-  module _ (N : ℕ) (differ : SessionsDiffer X) (decide : LocksDecideIn v start.history events) (alone : OneAtATime W0 events) (ends : EndsComeLast W0 events) (in_step : ClosesInStep N (pending (unclosed start.past.items)) events) where
-    abbrev g0 : Good v.meaning st.ledger.database W0 events
+  module _ (N : ℕ) (differ : SessionsDiffer X) (decide : LocksDecideIn v start.history events) (alone : OneAtATime past_world events) (ends : EndsComeLast past_world events) (in_step : ClosesInStep N (pending (unclosed start.past.items)) events) where
+    abbrev g0 : Good v.meaning st.ledger.database past_world events
     g0 = (parts v database size start events cells seats st).1
 
-    lines_are : lines_of first since ≡ lines_of W0 events
-    lines_are = lines_at first (behind start.past) refl since ∙ lines_without v.meaning st.ledger.database start.count events W0 (behind start.past) start.over g0
+    lines_are : lines_of first since ≡ lines_of past_world events
+    lines_are = lines_at first (behind start.past) refl since ∙ lines_without v.meaning st.ledger.database start.count events past_world (behind start.past) start.over g0
 
-    pub keeps_order_then : StepOrderBehind v.meaning N start.past (lines_of W0 events) X st.ledger.items
+    pub keeps_order_then : StepOrderBehind v.meaning N start.past (lines_of past_world events) X st.ledger.items
     keeps_order_then = subst₂ (λ (lines : List InputLine) (J : List JournalItem). StepOrderBehind v.meaning N start.past lines X J) lines_are items_are
         (keeps_order v.meaning st.ledger.database start.past start.is_past since left.0 input None X (whole None tt differ) N
-        (alone_at (behind start.past) first refl since (alone_without v.meaning st.ledger.database start.count events W0 (behind start.past) start.over g0 alone))
-        (ends_at (behind start.past) first refl since (ends_without v.meaning st.ledger.database start.count events W0 (behind start.past) start.over g0 ends))
+        (alone_at (behind start.past) first refl since (alone_without v.meaning st.ledger.database start.count events past_world (behind start.past) start.over g0 alone))
+        (ends_at (behind start.past) first refl since (ends_without v.meaning st.ledger.database start.count events past_world (behind start.past) start.over g0 ends))
         (closes_without start.count N (pending (unclosed start.past.items)) events in_step)
-        (locks_without v.meaning st.ledger.database start.count (length X) events W0 (behind start.past) start.over g0 (decide (start.count + length X) all_below alone)))
+        (locks_without v.meaning st.ledger.database start.count (length X) events past_world (behind start.past) start.over g0 (decide (start.count + length X) all_below alone)))

@@ -95,8 +95,8 @@ module _ (v : Server) (database : Text) (size : ℕ) (start : Start v database s
   abbrev pub h : History
   h = start.history ++ events
 
-  abbrev pub W0 : World
-  W0 = run first start.history
+  abbrev pub past_world : World
+  past_world = run first start.history
 
   abbrev pub W : World
   W = run first h
@@ -110,19 +110,19 @@ module _ (v : Server) (database : Text) (size : ℕ) (start : Start v database s
   good : Good v.meaning db first h
   good = st.transcripts_agree.good
 
-  pub parts : Good v.meaning db first start.history × Good v.meaning db W0 events
+  pub parts : Good v.meaning db first start.history × Good v.meaning db past_world events
   parts = good_append v.meaning db first start.history events good
 
-  pub splits : W ≡ run W0 events
+  pub splits : W ≡ run past_world events
   splits = run_append first start.history events
 
   -- ---- those that were before
 
-  pub silent_then : (n : ℕ) → n < count → (of n events ≡ []) × (((run W0 events).at n).phase ≡ gone)
-  silent_then n l = silent v.meaning db n W0 events (start.over.over n l) parts.1
+  pub silent_then : (n : ℕ) → n < count → (of n events ≡ []) × (((run past_world events).at n).phase ≡ gone)
+  silent_then n l = silent v.meaning db n past_world events (start.over.over n l) parts.1
 
-  pub as_it_was : (n : ℕ) → n < count → W.at n ≡ W0.at n
-  as_it_was n l = ap (λ (w : World). w.at n) splits ∙ stays_so n W0 events (silent_then n l).0
+  pub as_it_was : (n : ℕ) → n < count → W.at n ≡ past_world.at n
+  as_it_was n l = ap (λ (w : World). w.at n) splits ∙ stays_so n past_world events (silent_then n l).0
 
   pub gone_then : (n : ℕ) → n < count → (W.at n).phase ≡ gone
   gone_then n l = ap (λ (x : SessionState). x.phase) (as_it_was n l) ∙ start.over.over n l
@@ -142,7 +142,7 @@ module _ (v : Server) (database : Text) (size : ℕ) (start : Start v database s
   drew_then k l = all_drawn (suc k) (of k h) (subst (λ (xs : List SessionAct). In (suc k) (flat_map assigned_id xs)) (sym (of_append k start.history events)) (draws_front (suc k) (of k start.history) (of k events) (start.drew k l)))
 
   -- who has its transcript is the same session
-  pub same_one : (n k : ℕ) → k < count → (W.at n).phase ≡ gone → transcript_of (W.at n) ≡ transcript_of (W0.at k) → n ≡ k
+  pub same_one : (n k : ℕ) → k < count → (W.at n).phase ≡ gone → transcript_of (W.at n) ≡ transcript_of (past_world.at k) → n ≡ k
   same_one n k l over e =
       let facts_same : all_shown (of n h) ≡ all_shown (of k h) =
       sym (shows_all n over) ∙ ap (facts_of v.meaning) (e ∙ ap transcript_of (sym (as_it_was k l))) ∙ shows_all k (gone_then k l) in
@@ -153,15 +153,15 @@ module _ (v : Server) (database : Text) (size : ℕ) (start : Start v database s
   abbrev its : Numbers
   its = st.transcripts_agree.of_seat 0
 
-  past_numbers : (ns : List ℕ) (ws : List Written) (n k : ℕ) → n + k ≤ count → Past h ns ws → map (λ (w : Written). w.transcript) ws ≡ transcripts_from W0 n k → ns ≡ numbers n k
+  past_numbers : (ns : List ℕ) (ws : List Written) (n k : ℕ) → n + k ≤ count → Past h ns ws → map (λ (w : Written). w.transcript) ws ≡ transcripts_from past_world n k → ns ≡ numbers n k
   past_numbers [] [] n zero l p e = refl
   past_numbers [] [] n (suc k) l p e = cc
   past_numbers [] (w ∷ ws) n k l p e = absurd p
   past_numbers (m ∷ ns) [] n k l p e = absurd p
   past_numbers (m ∷ ns) (w ∷ ws) n zero l p e = cc
   past_numbers (m ∷ ns) (w ∷ ws) n (suc k) l p e =
-      let one : w.transcript ≡ transcript_of (W0.at n) = cc in
-      let others : map (λ (x : Written). x.transcript) ws ≡ transcripts_from W0 (suc n) k = cc in
+      let one : w.transcript ≡ transcript_of (past_world.at n) = cc in
+      let others : map (λ (x : Written). x.transcript) ws ≡ transcripts_from past_world (suc n) k = cc in
       let first_is : m ≡ n = same_one m n (omega (arith, l)) p.0.over (p.0.is ∙ one) in
       let rest_are : ns ≡ numbers (suc n) k = past_numbers ns ws (suc n) k (omega (arith, l)) p.1 others in
       λ i. first_is i ∷ rest_are i
