@@ -12,12 +12,13 @@ ghost use Rattle.spec_asof.specs.declared.reply.AsOfReply.TheVariants as replies
 ghost use Rattle.audit_asof.specs.declared.as_of.AsOfErr.TheVariants as refused;
 
 use crate::earlier_txs::EarlierTxs;
+use crate::opened_table::{OpenedTable, open_tables};
+use crate::showing::show;
 use crate::tables::tables_at;
-use base_types::{Items, Memory};
+use base_types::Memory;
 use spec_asof::AsOfReply;
 use sql_parse::{ParseErr, Select, Stmt, parse};
-use sql_reference::show;
-use sql_types::{Image, Table};
+use sql_types::Image;
 use sql_value::Refusal;
 use std::alloc::Global;
 use std::marker::Model;
@@ -30,10 +31,10 @@ pub enum AsOfErr {
     Memory,
 }
 
-/// The tables of a database behind its first transactions, with the versions that these left.
+/// The tables of a database behind its first transactions, with the versions that these left and their order by key.
 #[derive(Drop)]
 pub struct AsOf {
-    tables: Items<Table>,
+    tables: Vec<OpenedTable>,
 }
 
 impl Model for AsOf {
@@ -42,16 +43,17 @@ impl Model for AsOf {
 
     ghost Value = { Tables };
 
-    ghost view = { λ a. a.tables };
+    ghost view = { λ a. a.tables.items };
 
-    ghost invariant = { λ a. IdsRise 0 (defs_of a.tables) };
+    ghost invariant = { λ a. IdsRise 0 (defs_of a.tables.items) };
 }
 
 impl AsOf {
     /// The database behind its first `n` transactions in ledger order, as the image tells it, whatever came later.
     /// `TooFar` exactly where the image has fewer entries. Nothing is verified here: of an image that isn't accepted,
     /// or not with digests that somebody holds, this is what it tells. The versions are moved out of the image. Takes
-    /// the time of sorting the ids, and an ordered search for each start and end of a version.
+    /// the time of sorting the ids and the live rows of each table by key, and an ordered search for each start and
+    /// end of a version.
     pub fn open(alloc: Global, image: Image, n: u64) -> Result<AsOf, AsOfErr>
         requires { IsImage image }
         ensures opened { IfOk result (λ a. (n ≤ length image.entries) × (a ≡ database_at image n)) }
@@ -82,12 +84,15 @@ impl AsOf {
         } = image;
         let txs = EarlierTxs::of(alloc, &entries.as_slice()[..n])?;
         let tables = tables_at(alloc, &txs, defs, tables)?;
-        Ok(AsOf { tables })
+        Ok(AsOf {
+            tables: open_tables(alloc, tables)?,
+        })
     }
 
     /// What the text is answered over these tables: the rows that a SELECT shows, or the refusal of the text or of the
-    /// SELECT; `NotSelect` for any other statement. The only error is want of memory. Takes the time that the plain
-    /// machine takes for it.
+    /// SELECT; `NotSelect` for any other statement. The only error is want of memory. Where WHERE fixes the key of a
+    /// base table's row, takes two ordered searches for it; else looks once at each live row, or at each version for
+    /// a history or a view.
     #[tactic(auto, unfolding(spec_asof::specs::Answer::answer_of))]
     pub fn answer(&self, alloc: Global, text: &str) -> Result<AsOfReply, Memory>
         ensures answer { IfOk result (λ reply. reply ≡ answer_of self.now (statement_of text.now)) }
@@ -116,7 +121,7 @@ impl AsOf {
         ensures answer { IfOk result (λ reply. reply ≡ of_reply (effect self.now 0 0 (SelectOf q.now)).reply) }
         ensures no_memory { IfOk result (λ reply. reply ≡ replies.Refused NoMemory → ⊥) }
     {
-        match show(alloc, self.tables.as_slice(), q) {
+        match show(alloc, &self.tables, q) {
             Ok(rows) => Ok(AsOfReply::Rows(rows)),
             Err(Refusal::NoMemory) => Err(Memory),
             Err(refusal) => Ok(AsOfReply::Refused(refusal)),

@@ -2,9 +2,12 @@
 #![tactic(auto)]
 
 mod as_of;
+mod by_key;
 mod definitions;
 mod earlier_txs;
+mod opened_table;
 mod rows;
+mod showing;
 mod tables;
 mod versions;
 
