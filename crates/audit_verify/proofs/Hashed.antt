@@ -1,7 +1,7 @@
 -- The hashes of some leaves, in parts of a list.
-use Rattle.std.proofs.Common.{◌≡◌, ◌∙◌, ℕ, List, ◌∷◌, ◌++◌, length, map, take, drop, sym, ap}
+use Rattle.std.proofs.Common.{◌≡◌, ◌∙◌, ◌+◌, ℕ, List, ◌∷◌, ◌++◌, append_assoc, length, map, take, drop, sym, ap}
 use Rattle.std.proofs.Math.Seq.{take-append_seam}
-use Rattle.std.proofs.lemmas.List.{drop-map, take-map}
+use Rattle.std.proofs.lemmas.List.{drop-map, length-append, map-append, take-map}
 use Rattle.std.proofs.lemmas.Simd.{map-map}
 use Rattle.format_event.specs.Leaf.{event_bytes}
 use Rattle.sql_types.specs.declared.event.Event.{Event}
@@ -32,3 +32,31 @@ hashes_of_leaves h own hashes is =
 -- the first part of a list
 pub front_part : (own others rest : List Mark) → rest ≡ own ++ others → own ≡ take (length own) rest
 front_part own others rest parts = sym (take-append_seam own others) ∙ ap (take (length own)) (sym parts)
+
+-- of two parts, the second of which has two, the first of these follows the first part
+pub part_at : (from : ℕ) (marks front rest part others : List Mark) → marks ≡ front ++ rest → length front ≡ from → rest ≡ part ++ others
+    → take (from + length part) marks ≡ take from marks ++ part
+part_at from marks front rest part others parts long own =
+    let head : take from marks ≡ front =
+    ap (λ (k : ℕ). take k marks) (sym long) ∙ ap (take (length front)) parts ∙ take-append_seam front rest in
+    let whole : marks ≡ (front ++ part) ++ others =
+    parts ∙ ap (λ (l : List Mark). front ++ l) own ∙ sym (append_assoc front part others) in
+    let both : from + length part ≡ length (front ++ part) =
+    ap (λ (k : ℕ). k + length part) (sym long) ∙ sym (length-append front part) in
+    ap (λ (k : ℕ). take k marks) both
+    ∙ ap (take (length (front ++ part))) whole
+    ∙ take-append_seam (front ++ part) others
+    ∙ ap (λ (l : List Mark). l ++ part) (sym head)
+
+-- with those of a part that follows
+pub hashes_next : (h : List ℕ → List ℕ) (marks part : List Mark) (done n : ℕ) (own slice before next : List (List ℕ))
+    → take (done + length part) marks ≡ take done marks ++ part → n ≡ length part → before ≡ map (leaf_hash h) (take done marks)
+    → own ≡ map (leaf_hash h) part → slice ≡ own → next ≡ before ++ slice → next ≡ map (leaf_hash h) (take (done + n) marks)
+hashes_next h marks part done n own slice before next parts long before_is own_is slice_is next_is =
+    let f : Mark → List ℕ = leaf_hash h in
+    next_is
+    ∙ ap (λ (l : List (List ℕ)). l ++ slice) before_is
+    ∙ ap (λ (l : List (List ℕ)). map f (take done marks) ++ l) (slice_is ∙ own_is)
+    ∙ sym (map-append f (take done marks) part)
+    ∙ ap (map f) (sym parts)
+    ∙ ap (λ (k : ℕ). map f (take (done + k) marks)) (sym long)

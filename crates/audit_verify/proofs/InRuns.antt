@@ -21,13 +21,12 @@ use Rattle.spec_verify.specs.Order as spec
 use Rattle.spec_verify.proofs.SystemRows.{then_equal as then_both}
 use Rattle.audit_verify.specs.declared.order.EarlierVersions.{EarlierVersions}
 use Rattle.audit_verify.specs.declared.order.VersionWithRanks.{VersionWithRanks}
-use Rattle.audit_verify.specs.Order.{IsRanked, InRuns, KnowsEarlier, KnowsBefore, version_of, start_cmp, key_order, ranked_cmp, openness, rank_before, is_open, earlier_of, any_open, ends_well, follows, is_ordered_after, is_ordered_among}
+use Rattle.audit_verify.specs.Order.{IsRanked, KnowsEarlier, KnowsBefore, version_of, start_cmp, key_order, ranked_cmp, openness, rank_before, is_open, earlier_of, any_open, ends_well, follows, is_ordered_after, is_ordered_among}
 use Rattle.audit_columns.specs.Positions.{Rank, rank_of}
 use Rattle.audit_columns.specs.Runs as runs
 use Rattle.audit_columns.specs.Runs.{Neighbours}
 use Rattle.audit_verify.proofs.Neighbours.{neighbours, first_is, behind_first}
 use Rattle.audit_columns.proofs.Runs as law
-use Rattle.audit_columns.proofs.Sortings.{all_sorted}
 
 -- ---- orders
 
@@ -294,10 +293,6 @@ ordered_among_sorted columns found r =
     (law.latest_sorted (key_order columns) start_cmp (keys_total columns) starts_total r found)
     (law.any_sorted (key_order columns) start_cmp (keys_total columns) starts_total is_open r found)
 
--- what is sorted so has its ranks
-pub runs_ranked : (entries : List TxEntry) (columns : List ColumnDef) (versions : List Version) (ranked : List VersionWithRanks) → InRuns entries columns versions ranked → AllByRecursion (IsRanked entries) ranked
-runs_ranked entries columns versions ranked runs = subst (AllByRecursion (IsRanked entries)) (sym runs.order) (all_sorted (ranked_cmp columns) (IsRanked entries) runs.found runs.ranks)
-
 -- what is sorted so rises
-pub runs_rise : (entries : List TxEntry) (columns : List ColumnDef) (versions : List Version) (ranked : List VersionWithRanks) → InRuns entries columns versions ranked → IsSorted (ranked_cmp columns) ranked
-runs_rise entries columns versions ranked runs = subst (IsSorted (ranked_cmp columns)) (sym runs.order) (is_sorted (ranked_cmp columns) (ranked_total columns) runs.found)
+pub runs_rise : (columns : List ColumnDef) (found ranked : List VersionWithRanks) → ranked ≡ sorted (ranked_cmp columns) found → IsSorted (ranked_cmp columns) ranked
+runs_rise columns found ranked order = subst (IsSorted (ranked_cmp columns)) (sym order) (is_sorted (ranked_cmp columns) (ranked_total columns) found)

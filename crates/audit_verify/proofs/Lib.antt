@@ -9,6 +9,7 @@ pub mod GroupsMerge
 pub mod Hashed
 pub mod IdsAt
 pub mod InRows
+pub mod KeyNumbers
 pub mod LeafOrder
 pub mod EntryRoots
 pub mod InRuns
@@ -27,4 +28,5 @@ pub mod TableRoots
 pub mod Tables
 pub mod VerdictParts
 pub mod WorstParts
+pub mod Woven
 pub mod WrongRoots

@@ -24,7 +24,7 @@ use Rattle.spec_verify.specs.Versions.{has_columns, respects_columns, with_colum
 use Rattle.audit_definitions.proofs.Walks.{from_here}
 use Rattle.audit_verify.specs.declared.order.EarlierVersions.{EarlierVersions}
 use Rattle.audit_verify.specs.declared.order.VersionWithRanks.{VersionWithRanks}
-use Rattle.audit_verify.specs.Order.{IsRanked, InRuns, KnowsEarlier, version_of, ranked_cmp, is_ordered_after, is_ordered_among, out_of_order}
+use Rattle.audit_verify.specs.Order.{IsRanked, AreRanked, KnowsEarlier, version_of, ranked_cmp, is_ordered_after, is_ordered_among, out_of_order}
 use Rattle.audit_verify.specs.Versions.{fits_alone, null_among, unfit_among}
 use Rattle.audit_verify.proofs.InRuns.{ordered_among_is, ordered_among_sorted}
 use Rattle.audit_verify.proofs.LeastParts.{in_parts, when_sorted}
@@ -124,25 +124,24 @@ module _ (entries : List TxEntry) (second : List Version) (def : TableDef) (rows
 
   -- of those that have the columns
   null_of : (found : List VersionWithRanks) (best : Option TableEvent) → map version_of found ≡ fitting
-      → least best (null_among entries second def (sorted (ranked_cmp def.columns) found)) ≡ least best (map start (filter (λ v. has_all v && has_null v) all))
-  null_of found best are =
-      when_sorted table_event_cmp table_event_total same_event (λ (r : VersionWithRanks). (def.id, r.version.now.start)) (ranked_cmp def.columns) (λ r. has_null (version_of r)) best found
-      ∙ ap (least best) (sym (null_by found) ∙ ap (λ l. map start (filter has_null l)) are ∙ ap (map start) (sym (filter_twice has_all has_null all)))
+      → least best (null_among entries second def found) ≡ least best (map start (filter (λ v. has_all v && has_null v) all))
+  null_of found best are = ap (least best) (sym (null_by found) ∙ ap (λ l. map start (filter has_null l)) are ∙ ap (map start) (sym (filter_twice has_all has_null all)))
 
   -- first those that don't fit by themselves, in the base and in the history, then those with NULL where it may not
   -- be, then those out of order
-  pub worst_of_table : (ranked : List VersionWithRanks) (best in_base in_both with_null : Option TableEvent) → in_base ≡ least best (unfit_among def rows.base) → in_both ≡ least in_base (unfit_among def rows.history)
-      → with_null ≡ least in_both (null_among entries second def ranked)
-      → InRuns entries def.columns fitting ranked → least with_null (out_of_order def.id def.columns ranked ranked) ≡ least best (bad_versions entries second (table_in def rows))
-  worst_of_table ranked best in_base in_both with_null base_is both_is null_is runs =
+  pub worst_of_table : (found ranked : List VersionWithRanks) (best in_base in_both with_null : Option TableEvent) → in_base ≡ least best (unfit_among def rows.base) → in_both ≡ least in_base (unfit_among def rows.history)
+      → with_null ≡ least in_both (null_among entries second def found)
+      → AreRanked entries def.columns fitting found → ranked ≡ sorted (ranked_cmp def.columns) found
+      → least with_null (out_of_order def.id def.columns ranked ranked) ≡ least best (bad_versions entries second (table_in def rows))
+  worst_of_table found ranked best in_base in_both with_null base_is both_is null_is are order =
       let p = λ (v : Version). has_all v && has_null v in
       let q = λ (v : Version). has_all v && disordered v in
-      ap (λ l. least with_null (out_of_order def.id def.columns l l)) runs.order
-      ∙ in_order runs.found with_null
-      ∙ ap (least with_null) (sym (by_ranks runs.found runs.ranks runs.versions_are runs.found runs.ranks) ∙ ap (λ l. map start (filter disordered l)) runs.versions_are
+      ap (λ l. least with_null (out_of_order def.id def.columns l l)) order
+      ∙ in_order found with_null
+      ∙ ap (least with_null) (sym (by_ranks found are.ranks are.versions_are found are.ranks) ∙ ap (λ l. map start (filter disordered l)) are.versions_are
       ∙ ap (map start) (sym (filter_twice has_all disordered all)))
       ∙ ap (λ b. least b (map start (filter q all)))
-      (null_is ∙ ap (λ l. least in_both (null_among entries second def l)) runs.order ∙ null_of runs.found in_both runs.versions_are
+      (null_is ∙ null_of found in_both are.versions_are
       ∙ ap (λ b. least b (map start (filter p all))) (both_is ∙ ap (λ b. least b (unfit_among def rows.history)) base_is ∙ sym (alone best)))
       ∙ sym (ap (λ (t : Version → Bool). least best (map start (filter t all))) (λ i v. holds_parts v i)
       ∙ in_parts table_event_cmp table_event_total same_event start (λ v. unfit v || p v) q best all

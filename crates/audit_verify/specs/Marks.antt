@@ -1,5 +1,5 @@
 -- The starts and ends of versions, without copies of their values.
-use Rattle.std.specs.Prelude.{All, ℕ, ◌≡◌, ◌==◌, false, if◌then◌else◌, List, [], ◌∷◌, map, flat_map, Some, None}
+use Rattle.std.specs.Prelude.{All, ℕ, ◌≡◌, ◌==◌, not, Bool, false, if◌then◌else◌, List, [], ◌∷◌, ◌++◌, map, flat_map, take, drop, Some, None}
 use Rattle.std.specs.List.Sorted.{IsNonDecreasingBy}
 use Rattle.std.specs.declared.cmp.Ordering.{Ordering}
 use Rattle.std.specs.Ordering.{nat_cmp, ordering_then}
@@ -36,6 +36,18 @@ number_of m = m.event.1
 -- the hash of its leaf
 abbrev pub leaf_hash : (List ℕ → List ℕ) → Mark → List ℕ
 leaf_hash h m = h (0 ∷ event_bytes (event_of m))
+
+abbrev pub is_end : Mark → Bool
+is_end m = m.is_end
+
+abbrev pub is_start : Mark → Bool
+is_start m = not m.is_end
+
+-- for each start the next of the first list, and for each end the next of the second
+abbrev pub woven : {A : Type 0} → List Mark → List A → List A → List A
+woven [] starts ends = []
+woven (m ∷ ms) starts ends =
+    if m.is_end then take 1 ends ++ woven ms starts (drop 1 ends) else take 1 starts ++ woven ms (drop 1 starts) ends
 
 -- the values of a version have a spelling
 abbrev pub HasEncodableValues : Version → Type 0

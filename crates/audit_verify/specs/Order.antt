@@ -1,12 +1,13 @@
 -- The versions of a table by their ranks: by key, and those of a key by start.
-use Rattle.std.specs.Prelude.{ℕ, ◌==◌, ◌&&◌, ◌||◌, ◌≡◌, ◌<◌, ◌-◌, nat_lt, not, Bool, true, false, List, map, get_or, Option, Some, None, is_none, option_map}
+use Rattle.std.specs.Prelude.{ℕ, ℤ, pos, ◌==◌, ◌&&◌, ◌||◌, ◌≡◌, ◌<◌, ◌-◌, nat_lt, not, Bool, true, false, List, [], ◌∷◌, map, get_or, Option, Some, None, is_none, is_some, option_map, unwrap_or, IfSome}
 use Rattle.std.specs.List.{AllByRecursion, All, filter, list_any}
-use Rattle.std.specs.Ordering.{nat_cmp, ordering_then}
+use Rattle.std.specs.Ordering.{int_cmp, nat_cmp, on, ordering_then}
 use Rattle.std.specs.declared.cmp.Ordering.{Ordering}
 use Rattle.sql_value.specs.declared.column.ColumnDef.{ColumnDef}
+use Rattle.sql_value.specs.declared.value.Value.TheVariants.{Num}
 use Rattle.sql_types.specs.declared.entry.TxEntry.{TxEntry}
 use Rattle.sql_types.specs.declared.version.Version.{Version}
-use Rattle.spec_model.specs.Lists.{sorted}
+use Rattle.spec_model.specs.Keys.{version_key}
 use Rattle.spec_model.specs.Rows.{event_cmp}
 use Rattle.sql_parts.specs.Places.{by_key}
 use Rattle.spec_verify.specs.Entries.{TableEvent, has_id}
@@ -34,6 +35,17 @@ pub record IsRanked (entries : List TxEntry) (r : VersionWithRanks) : Type 0 whe
   pub end : r.end ≡ option_map (rank_of entries) r.version.now.end
   pub started : IsStarted entries r.version.now
 
+-- the version's key is its number, if it has one
+abbrev pub IsNumbered : List ColumnDef → VersionWithRanks → Type 0
+IsNumbered columns r = IfSome r.key_number (λ (n : ℤ). version_key columns r.version.now ≡ Num 0 n ∷ [])
+
+abbrev pub has_number : VersionWithRanks → Bool
+has_number r = is_some r.key_number
+
+-- 0 where it has none
+abbrev pub number_of : VersionWithRanks → ℤ
+number_of r = unwrap_or r.key_number (pos 0)
+
 -- ---- orders
 
 -- by the place, then by the number
@@ -55,13 +67,16 @@ key_order columns a b = by_key columns a.version.now b.version.now
 abbrev pub ranked_cmp : List ColumnDef → VersionWithRanks → VersionWithRanks → Ordering
 ranked_cmp columns = runs.run_cmp (key_order columns) start_cmp
 
--- these are the versions of a table that have its columns, by key and start
-pub record InRuns (entries : List TxEntry) (columns : List ColumnDef) (versions : List Version)
+-- by the numbers that are the keys, and then by start
+abbrev pub numbered_cmp : VersionWithRanks → VersionWithRanks → Ordering
+numbered_cmp = runs.run_cmp (on number_of int_cmp) start_cmp
+
+-- they are these versions, in their order
+pub record AreRanked (entries : List TxEntry) (columns : List ColumnDef) (versions : List Version)
     (ranked : List VersionWithRanks) : Type 0 where
-  pub found : List VersionWithRanks
-  pub versions_are : map version_of found ≡ versions
-  pub ranks : AllByRecursion (IsRanked entries) found
-  pub order : ranked ≡ sorted (ranked_cmp columns) found
+  pub versions_are : map version_of ranked ≡ versions
+  pub ranks : AllByRecursion (IsRanked entries) ranked
+  pub numbers : AllByRecursion (IsNumbered columns) ranked
 
 -- ---- the earlier versions of a version's key
 

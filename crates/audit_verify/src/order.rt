@@ -6,9 +6,14 @@
 //! an end is at fault, also behind others that have ended, and the least fault is the one of the least
 //! transaction, which needn't be the first in the ledger.
 
-ghost use Rattle.std.specs.Prelude.{◌≡◌, ◌<◌, ◌||◌, ◌++◌, ◌∷◌, [], if◌then◌else◌, IsSorted, List, IfOk, OnOk, map, length, get_or, option_map, is_none};
-ghost use Rattle.std.specs.List.{All, AllByRecursion};
+ghost use Rattle.std.specs.Prelude.{◌≡◌, ◌<◌, ◌||◌, ◌++◌, ◌∷◌, [], if◌then◌else◌, IsSorted, List, IfOk, IfSome, OnOk, map, length, get_or, option_map, is_none, unwrap_or};
+ghost use Rattle.std.specs.List.{All, AllByRecursion, list_all};
+ghost use Rattle.std.specs.Option.{option_copied};
+ghost use Rattle.std.specs.Ordering.{int_cmp, is_eq};
+ghost use Rattle.sql_value.specs.declared.value.Value.TheVariants.{Null, Num};
+ghost use Rattle.spec_model.specs.Keys.{key_at};
 ghost use Rattle.spec_model.specs.Lists.{sorted};
+ghost use Rattle.spec_model.specs.Rows.{values_of};
 ghost use Rattle.law_catalog_rows.specs.Least.{least_from, lesser};
 ghost use Rattle.spec_verify.specs.Entries.{table_event_cmp};
 ghost use Rattle.spec_verify.specs.Versions.{with_columns};
@@ -20,9 +25,9 @@ ghost use Rattle.audit_verify.specs.declared.order.VersionWithRanks.{VersionWith
 use crate::least::{TableEvent, lesser};
 use audit_columns::{Positions, Rank, has_columns};
 use base_types::Memory;
-use sql_parts::{KeyedTable, compare_by_key, same_key};
+use sql_parts::{KeyedTable, Valued, compare_by_key};
 use sql_types::{EventId, TableRows, Version};
-use sql_value::ColumnDef;
+use sql_value::Value;
 use std::alloc::Global;
 use std::cmp::Ordering;
 
@@ -32,6 +37,8 @@ pub struct VersionWithRanks<'a> {
     pub version: &'a Version,
     pub start: Rank,
     pub end: Option<Rank>,
+    /// Its key, where that is one whole number of 64 bits: such keys are compared without a look at the version.
+    pub key_number: Option<i64>,
 }
 
 /// What is known of the earlier versions of a version's key.
@@ -43,7 +50,7 @@ pub struct EarlierVersions {
     pub any_open: bool,
 }
 
-/// The versions that have the table's columns, by key, and those of a key by start. Sorts them once.
+/// The versions that have the table's columns: those of the base, and behind them those of the history.
 pub fn ranked_versions<'a>(
     alloc: Global,
     positions: &Positions,
@@ -52,41 +59,32 @@ pub fn ranked_versions<'a>(
 ) -> Result<Vec<VersionWithRanks<'a>>, Memory>
     requires base { All (spec.IsStarted positions.now) rows.now.base }
     requires history { All (spec.IsStarted positions.now) rows.now.history }
-    ensures { IfOk result (λ ranked. spec.InRuns positions.now table.now.columns
+    ensures { IfOk result (λ ranked. spec.AreRanked positions.now table.now.columns
         (with_columns table.now.columns (rows.now.base ++ rows.now.history)) ranked.items) }
 {
     let mut ranked = Vec::new(alloc);
-    add_ranked(
-        positions,
-        table.columns(),
-        rows.base.as_slice(),
-        &mut ranked,
-    )?;
-    add_ranked(
-        positions,
-        table.columns(),
-        rows.history.as_slice(),
-        &mut ranked,
-    )?;
-    sort_in_runs(table, &mut ranked)?;
+    add_ranked(positions, table, rows.base.as_slice(), &mut ranked)?;
+    add_ranked(positions, table, rows.history.as_slice(), &mut ranked)?;
     Ok(ranked)
 }
 
 /// Adds those of these versions that have the columns.
 fn add_ranked<'a>(
     positions: &Positions,
-    columns: &[ColumnDef],
+    table: &KeyedTable,
     versions: &'a [Version],
     ranked: &mut Vec<VersionWithRanks<'a>>,
 ) -> Result<(), Memory>
     requires { All (spec.IsStarted positions.now) versions.now }
     ensures versions { OnOk result (map spec.version_of ranked.new.items
-        ≡ map spec.version_of ranked.old.items ++ with_columns columns.now versions.now) }
+        ≡ map spec.version_of ranked.old.items ++ with_columns table.now.columns versions.now) }
     ensures ranks { OnOk result (AllByRecursion (spec.IsRanked positions.now) ranked.old.items
         → AllByRecursion (spec.IsRanked positions.now) ranked.new.items) }
+    ensures numbers { OnOk result (AllByRecursion (spec.IsNumbered table.now.columns) ranked.old.items
+        → AllByRecursion (spec.IsNumbered table.now.columns) ranked.new.items) }
 {
     for version in versions {
-        add_one(positions, columns, version, ranked)?;
+        add_one(positions, table, version, ranked)?;
     }
     Ok(())
 }
@@ -94,31 +92,59 @@ fn add_ranked<'a>(
 /// Adds the version, if it has the columns.
 fn add_one<'a>(
     positions: &Positions,
-    columns: &[ColumnDef],
+    table: &KeyedTable,
     version: &'a Version,
     ranked: &mut Vec<VersionWithRanks<'a>>,
 ) -> Result<(), Memory>
     requires { spec.IsStarted positions.now version.now }
     ensures versions { OnOk result (map spec.version_of ranked.new.items
-        ≡ map spec.version_of ranked.old.items ++ with_columns columns.now (version.now ∷ [])) }
+        ≡ map spec.version_of ranked.old.items ++ with_columns table.now.columns (version.now ∷ [])) }
     ensures ranks { OnOk result (AllByRecursion (spec.IsRanked positions.now) ranked.old.items
         → AllByRecursion (spec.IsRanked positions.now) ranked.new.items) }
+    ensures numbers { OnOk result (AllByRecursion (spec.IsNumbered table.now.columns) ranked.old.items
+        → AllByRecursion (spec.IsNumbered table.now.columns) ranked.new.items) }
 {
-    if has_columns(columns, version.values.as_slice()) {
-        ranked.push(ranked_one(positions, version))?;
+    if has_columns(table.columns(), version.values.as_slice()) {
+        ranked.push(ranked_one(positions, table, version))?;
     }
     Ok(())
 }
 
-fn ranked_one<'a>(positions: &Positions, version: &'a Version) -> VersionWithRanks<'a>
+fn ranked_one<'a>(
+    positions: &Positions,
+    table: &KeyedTable,
+    version: &'a Version,
+) -> VersionWithRanks<'a>
     requires { spec.IsStarted positions.now version.now }
     ensures version { result.version.now ≡ version.now }
     ensures ranks { spec.IsRanked positions.now result }
+    ensures number { spec.IsNumbered table.now.columns result }
 {
     VersionWithRanks {
         version,
         start: positions.rank_of(version.start),
         end: rank_of_end(positions, version.end),
+        key_number: key_number(table.key(), version),
+    }
+}
+
+/// The key of a version at these places, where it is one whole number of 64 bits.
+#[tactic(auto, unfolding(spec_model::specs::Keys::key_at))]
+fn key_number(key: &[usize], version: &Version) -> Option<i64>
+    ensures { IfSome result (λ n. key_at key.now (values_of version.now) ≡ Num 0 n ∷ []) }
+{
+    match key {
+        [place] => whole_number(version.value_at(*place)),
+        _ => None,
+    }
+}
+
+fn whole_number(value: Option<&Value>) -> Option<i64>
+    ensures { IfSome result (λ n. unwrap_or (option_copied value.entry) Null ≡ Num 0 n) }
+{
+    match value {
+        Some(Value::Num { v, s: 0 }) => i64::try_from(*v).ok(),
+        _ => None,
     }
 }
 
@@ -131,12 +157,63 @@ fn rank_of_end(positions: &Positions, end: Option<EventId>) -> Option<Rank>
     }
 }
 
-fn sort_in_runs(table: &KeyedTable, ranked: &mut Vec<VersionWithRanks>) -> Result<(), Memory>
+/// Sorts the versions by key, and those of a key by start.
+#[tactic(auto, using(crate::proofs::KeyNumbers::by_numbers))]
+pub fn sort_in_runs(table: &KeyedTable, ranked: &mut Vec<VersionWithRanks>) -> Result<(), Memory>
+    requires { AllByRecursion (spec.IsNumbered table.now.columns) ranked.old.items }
+    ensures { OnOk result (ranked.new.items
+        ≡ sorted (spec.ranked_cmp table.now.columns) ranked.old.items) }
+{
+    if have_numbers(ranked) {
+        sort_by_numbers(ranked)?;
+        return Ok(());
+    }
+    sort_by_keys(table, ranked)
+}
+
+fn have_numbers(ranked: &[VersionWithRanks]) -> bool
+    ensures { result ≡ list_all spec.has_number ranked.now }
+{
+    ranked.iter().all(|version| version.key_number.is_some())
+}
+
+fn sort_by_numbers(ranked: &mut Vec<VersionWithRanks>) -> Result<(), Memory>
+    ensures { OnOk result (ranked.new.items ≡ sorted spec.numbered_cmp ranked.old.items) }
+{
+    ranked.sort_by(|a, b| compare_numbered(a, b))?;
+    Ok(())
+}
+
+fn sort_by_keys(table: &KeyedTable, ranked: &mut Vec<VersionWithRanks>) -> Result<(), Memory>
     ensures { OnOk result (ranked.new.items
         ≡ sorted (spec.ranked_cmp table.now.columns) ranked.old.items) }
 {
     ranked.sort_by(|a, b| compare_ranked(table, a, b))?;
     Ok(())
+}
+
+/// By the numbers that are the keys, and then by start.
+fn compare_numbered(a: &VersionWithRanks, b: &VersionWithRanks) -> Ordering
+    ensures { result ≡ spec.numbered_cmp a.now b.now }
+{
+    match compare_numbers(a, b) {
+        Ordering::Equal => compare_starts(a, b),
+        order => order,
+    }
+}
+
+/// By the numbers that are the keys.
+fn compare_numbers(a: &VersionWithRanks, b: &VersionWithRanks) -> Ordering
+    ensures { result ≡ int_cmp (spec.number_of a.now) (spec.number_of b.now) }
+{
+    number_of(a).cmp(&number_of(b))
+}
+
+/// The number that is the key; 0 where it is none.
+fn number_of(version: &VersionWithRanks) -> i64
+    ensures { result ≡ spec.number_of version.now }
+{
+    version.key_number.unwrap_or(0)
 }
 
 /// By key, and then by start.
@@ -174,7 +251,8 @@ pub fn least_out_of_order(
     ranked: &[VersionWithRanks],
     worst: Option<TableEvent>,
 ) -> Option<TableEvent>
-    requires { IsSorted (spec.ranked_cmp table.now.columns) ranked.now }
+    requires order { IsSorted (spec.ranked_cmp table.now.columns) ranked.now }
+    requires numbers { All (spec.IsNumbered table.now.columns) ranked.now }
     ensures { result ≡ least_from table_event_cmp worst
         (spec.out_of_order table.now.id table.now.columns ranked.now ranked.now) }
 {
@@ -216,6 +294,7 @@ fn earlier_at(
 ) -> EarlierVersions
     requires within { k < length ranked.now }
     requires order { IsSorted (spec.ranked_cmp table.now.columns) ranked.now }
+    requires numbers { All (spec.IsNumbered table.now.columns) ranked.now }
     requires before { spec.KnowsBefore table.now.columns ranked.now k before }
     ensures { (d : RankedVersion) → spec.KnowsEarlier table.now.columns ranked.now (get_or ranked.now k d) result }
 {
@@ -235,11 +314,13 @@ fn earlier_behind(
     version: &VersionWithRanks,
     known: EarlierVersions,
 ) -> EarlierVersions
+    requires last { spec.IsNumbered table.now.columns last.now }
+    requires version { spec.IsNumbered table.now.columns version.now }
     ensures { (all : List RankedVersion) → Neighbours (spec.ranked_cmp table.now.columns) all last.now version.now
         → spec.KnowsEarlier table.now.columns all last.now known
         → spec.KnowsEarlier table.now.columns all version.now result }
 {
-    if !same_key(table, last.version, version.version) {
+    if !have_same_key(table, last, version) {
         return EarlierVersions {
             latest: None,
             any_open: false,
@@ -252,6 +333,27 @@ fn earlier_behind(
         };
     }
     known
+}
+
+/// Whether two versions have one key: by their numbers, where they have some.
+fn have_same_key(table: &KeyedTable, a: &VersionWithRanks, b: &VersionWithRanks) -> bool
+    requires first { spec.IsNumbered table.now.columns a.now }
+    requires second { spec.IsNumbered table.now.columns b.now }
+    ensures { result ≡ is_eq (spec.key_order table.now.columns a.now b.now) }
+{
+    compare_keys(table, a, b).is_eq()
+}
+
+#[tactic(auto, using(crate::proofs::KeyNumbers::keys_by_numbers))]
+fn compare_keys(table: &KeyedTable, a: &VersionWithRanks, b: &VersionWithRanks) -> Ordering
+    requires first { spec.IsNumbered table.now.columns a.now }
+    requires second { spec.IsNumbered table.now.columns b.now }
+    ensures { result ≡ spec.key_order table.now.columns a.now b.now }
+{
+    if a.key_number.is_some() && b.key_number.is_some() {
+        return compare_numbers(a, b);
+    }
+    compare_by_key(table, a.version, b.version)
 }
 
 /// Whether the version or an earlier one has no end.

@@ -11,7 +11,7 @@ ghost use Rattle.audit_verify.specs.ImageTable.{AreImageTables, table_of};
 ghost use Rattle.audit_verify.specs.Versions.{fits_alone, null_among, unfit_among};
 
 use crate::least::{TableEvent, event_place, lesser};
-use crate::order::{VersionWithRanks, least_out_of_order, ranked_versions};
+use crate::order::{VersionWithRanks, least_out_of_order, ranked_versions, sort_in_runs};
 use crate::shown::ImageTable;
 use audit_columns::{ColumnRows, has_columns};
 use base_types::Memory;
@@ -73,8 +73,9 @@ fn worst_in(
     let worst = worst_alone(table.def, rows.history.as_slice(), worst);
     let key = key_places(alloc, table.def.columns.as_slice())?;
     let keyed = KeyedTable::new(table.def, &key);
-    let ranked = ranked_versions(alloc, columns.positions(), &keyed, rows)?;
+    let mut ranked = ranked_versions(alloc, columns.positions(), &keyed, rows)?;
     let worst = worst_null(columns, table.def, &ranked, worst);
+    sort_in_runs(&keyed, &mut ranked)?;
     Ok(least_out_of_order(&keyed, &ranked, worst))
 }
 

@@ -5,7 +5,7 @@ use Rattle.sql_parts.proofs.Sorting.{sorted_stably}
 use Rattle.audit_verify.specs.declared.order.VersionWithRanks.{VersionWithRanks}
 use Rattle.audit_verify.specs.Order.{ranked_cmp}
 use Rattle.audit_verify.proofs.InRuns.{ranked_total}
-use Rattle.audit_verify.proofs.order.sort_in_runs.Goals as goal
+use Rattle.audit_verify.proofs.order.sort_by_keys.Goals as goal
 
 abbrev itself : VersionWithRanks → VersionWithRanks
 itself r = r
