@@ -1,30 +1,28 @@
 -- What the calls of a core ask of each other.
-use Rattle.std.proofs.Common.{◌≡◌, ◌≢◌, ◌⊎◌, ◌<◌, ℕ, zero, suc, Bool, true, false, MatchBool, List, [], ◌∷◌, ◌++◌, Option, Some, None, Result, Ok, Err, OnErr, length, slice_get, refl, sym, ap, subst, ◌∙◌, inr, ⊎_elim, arith}
+use Rattle.std.proofs.Common.{◌≡◌, ◌≢◌, ◌⊎◌, ◌<◌, ℕ, zero, suc, Bool, true, false, MatchBool, List, [], ◌∷◌, ◌++◌, Option, Some, None, Result, Ok, Err, OnErr, OnOk, length, refl, sym, ap, subst, ◌∙◌, inr, ⊎_elim, arith}
 use mathlib.Core.Option.{some, some-injective, some-ne-none}
 use lib.ListN.{get_elem?}
 use Rattle.spec_history.specs.Lists.{Text}
 use Rattle.spec_protocol.specs.Cells.{ledger_at}
 use Rattle.spec_protocol.proofs.Places.{set_else, set_here}
 use Rattle.server_session.specs.KeptCell.{KeptCell}
-use Rattle.server_session.specs.Needs.{need_of, point_need, cell_or_done, end_need}
+use Rattle.server_session.specs.Needs.{need_of}
 use Rattle.server_session.specs.ControlPoints.{IsAnswering, IsBegun, IsBetween, IsInside, IsLeaving, IsLeavingAt, KeepsStatement, IsSamePhase}
 use Rattle.server_session.specs.Rest.{MayEndSession, MayEndSessionAt}
 use Rattle.server_session.specs.Steps.{items_in, items_of}
-use Rattle.sql_types.specs.declared.end_line.EndLine.{EndLine}
-use Rattle.server_session.specs.declared.need.NextVisit.{NextVisit}
 use Rattle.server_session.specs.declared.need.NextVisit.TheVariants as need
 use Rattle.server_session.specs.declared.running.Running.{Running}
 use Rattle.server_session.specs.declared.seat.Seat.{Seat}
 use Rattle.server_session.specs.declared.stage.ControlPoint.{ControlPoint}
 use Rattle.server_session.specs.declared.stage.ControlPoint.TheVariants.{Between, Inside, Leaving, Over}
 use Rattle.server_engine.specs.CoreInput.{CoreInput}
-use Rattle.server_engine.specs.IsMidway.{IsAtSessionEnd, IsEnding, IsInStatement, IsMidway, TookUp, ChangesSession, WentOn, WentToEnd}
+use Rattle.server_engine.specs.IsMidway.{ChangesSession, IsAtSessionEnd, IsMidway, IsReady, TookUp, WentOn, WentToEnd}
 use Rattle.server_engine.specs.Standing.{Found, IsOpen, OthersStay, Stands}
 use Rattle.server_engine.specs.declared.one_thread.Core.{Core}
 use Rattle.server_engine.specs.declared.session.Session.{Session}
 use Rattle.server_engine.proofs.Holding as holding
 use Rattle.server_engine.proofs.Ends.{session_count}
-use Rattle.server_engine.proofs.Midways.{all_not_done, found_is, same_at, turned_on}
+use Rattle.server_engine.proofs.Midways.{found_is, same_at, turned_on}
 use Rattle.server_engine.proofs.Pairs.{last_at, last_else, near}
 use Rattle.server_engine.proofs.Turns as turns
 use Rattle.server_engine.proofs.Within.{need_within}
@@ -38,10 +36,13 @@ module _ {H : Type 0} (c : Core H) (j : ℕ) where
   open_between o y e = let f = found_is (λ (y : Session H). IsBetween y.seat) (get_elem? c.sessions.items j) o in
       same_at c.sessions.items j y (λ (u : Session H). IsBetween u.seat) e f.0 f.1 f.2
 
-  -- of one at its end
-  pub ending_at : IsEnding c j → (y : Session H) → get_elem? c.sessions.items j ≡ some y → MayEndSession y.seat ⊎ IsLeaving y.seat
-  ending_at o y e = let f = found_is (λ (y : Session H). MayEndSession y.seat ⊎ IsLeaving y.seat) (get_elem? c.sessions.items j) o in
-      same_at c.sessions.items j y (λ (u : Session H). MayEndSession u.seat ⊎ IsLeaving u.seat) e f.0 f.1 f.2
+  -- one that is ready
+  pub ready_is : IsReady c j → (y : Session H) → get_elem? c.sessions.items j ≡ some y → IsBetween y.seat × (y.answer ≡ None)
+  ready_is o y e = let f = found_is (λ (y : Session H). IsBetween y.seat × (y.answer ≡ None)) (get_elem? c.sessions.items j) o in
+      same_at c.sessions.items j y (λ (u : Session H). IsBetween u.seat × (u.answer ≡ None)) e f.0 f.1 f.2
+
+  pub ready_near : IsReady c j → j < length c.sessions.items
+  ready_near o = let f = found_is (λ (y : Session H). IsBetween y.seat × (y.answer ≡ None)) (get_elem? c.sessions.items j) o in near c.sessions.items j f.0 f.1
 
   -- who changed alone left the others
   pub turned_others : (d : Core H) (P : Seat H → Seat H → Type 0) → ChangesSession P j c d → OthersStay j c d
@@ -129,61 +130,6 @@ module _ {H : Type 0} (digest : H → List ℕ → List ℕ) (h : H) (a : CoreIn
       same_at d.sessions.items j m.y (λ (y : Session H). MayEndSession y.seat) m.there u.z there
       (⊎_elim (λ (e : MayEndSession u.z.seat). e) (λ l. turns.may_leave digest h a j d m u.z there l u.went.1) u.went.0)
 
-module _ {H : Type 0} (j : ℕ) (b c d : Core H) (Q : Seat H → Seat H → Type 0) (on : (y z : Seat H) → Q y z → WentOn y z) where
-  -- who took up a statement and went on is in it
-  pub inside_on : ChangesSession TookUp j b c → ChangesSession Q j c d → IsInStatement d j
-  inside_on s t = turned_found b j d (λ x z. IsInside z) (λ y. IsInside y.seat) (λ y z p. p)
-      (turned_on j b c d TookUp Q (λ x z. IsInside z) (λ x y z p q. (turns.still_inside y z p (on y z q)).0) s t)
-
--- ---- at the end of a session
-
--- who comes to its end is there
-pub ending_now : {H : Type 0} (j : ℕ) (c d : Core H) → ChangesSession IsAtSessionEnd j c d → IsEnding d j
-ending_now j c d t = turned_found c j d IsAtSessionEnd (λ y. MayEndSession y.seat ⊎ IsLeaving y.seat) (λ y z p. p) t
-
--- and still there when it went on
-pub ending_then : {H : Type 0} (j : ℕ) (c d : Core H) → IsEnding c j → ChangesSession WentOn j c d → IsEnding d j
-ending_then {H} j c d e t = subst (Found (λ (y : Session H). MayEndSession y.seat ⊎ IsLeaving y.seat)) (sym (turned_there j c d WentOn t))
-    (still_ending t.y.seat t.z.seat (ending_at c j e t.y t.there) t.went)
-
-got_one : (cell : Option ℕ) → cell_or_done cell ≡ need.All → ⊥
-got_one None e = cc
-got_one (Some i) e = cc
-
-by_end : (end : Option EndLine) (left : List ℕ) → end_need false end left ≡ need.All → ⊥
-by_end None left e = cc
-by_end (Some line) left e = got_one (slice_get left 0) e
-
-module _ {H : Type 0} where
-  ends_at : (n : NextVisit) (p : ControlPoint) (r : Option (Running H)) → MayEndSessionAt p r → point_need p r ≡ n → (need.Done ≡ n → ⊥) → ⊥
-  ends_at n Between None e f not_done = not_done f
-  ends_at n Between (Some r) e f not_done = e
-  ends_at n (Inside stage) r e f not_done = e
-  ends_at n Leaving None e f not_done = e
-  ends_at n Leaving (Some r) e f not_done = not_done (sym e ∙ f)
-  ends_at n Over r e f not_done = e
-
-  -- who needs something there has a transaction that isn't ended yet
-  pub ending_leaves : (y : Seat H) (n : NextVisit) → MayEndSession y ⊎ IsLeaving y → need_of y ≡ n → (need.Done ≡ n → ⊥) → IsLeaving y
-  ending_leaves y n ends needs not_done = ⊎_elim
-      (λ (e : MayEndSession y). absurd (ends_at n y.point y.running e needs not_done)) (λ l. l) ends
-
-  leaves_one : (p : ControlPoint) (r : Option (Running H)) → IsLeavingAt p → point_need p r ≡ need.All → ⊥
-  leaves_one Between r l e = l
-  leaves_one (Inside stage) r l e = l
-  leaves_one Leaving None l e = cc
-  leaves_one Leaving (Some r) l e = by_end r.end r.visited.left e
-  leaves_one Over r l e = l
-
-  -- and never all cells: without a single cell it needs nothing
-  pub ending_is_done : (y : Seat H) → MayEndSession y ⊎ IsLeaving y → ((i : ℕ) → need_of y ≡ need.Cell i → ⊥) → need_of y ≡ need.Done
-  ending_is_done y ends not_cell = by (need_of y) refl
-    where
-      by : (n : NextVisit) → need_of y ≡ n → need_of y ≡ need.Done
-      by (need.Cell i) e = absurd (not_cell i e)
-      by need.All e = absurd (leaves_one y.point y.running (ending_leaves y need.All ends e all_not_done) e)
-      by need.Done e = e
-
 -- the name of an open session
 pub name_there : {H : Type 0} (digest : H → List ℕ → List ℕ) (h : H) (a : CoreInput) (c : Core H) → Stands digest h c a → (j : ℕ) → j < length c.sessions.items → (name : Text) × (get_elem? a.names j ≡ some name)
 name_there digest h a c m j l = let n = session_count digest h a c m in element_there a.names j (omega (arith, l, n))
@@ -208,3 +154,11 @@ when_false P Q false e p = p
 pub when_err : {T E P : Type 0} (r : Result T E) → P → OnErr r P
 when_err (Ok x) p = tt
 when_err (Err e) p = p
+
+pub ok_map : {T E P Q : Type 0} (r : Result T E) → (P → Q) → OnOk r P → OnOk r Q
+ok_map (Ok x) f p = f p
+ok_map (Err e) f p = tt
+
+pub err_map : {T E P Q : Type 0} (r : Result T E) → (P → Q) → OnErr r P → OnErr r Q
+err_map (Ok x) f p = tt
+err_map (Err e) f p = f p

@@ -46,7 +46,7 @@ use Rattle.server_engine.specs.declared.session.Session.{Session}
 use Rattle.server_engine.proofs.AnonymousActs.{one_session}
 use Rattle.server_engine.proofs.FirstCells.{first_keep, first_same}
 use Rattle.server_engine.proofs.Holding as holding
-use Rattle.server_engine.proofs.Holding.{shown_entries}
+use Rattle.server_engine.proofs.Holding.{none_lies, shown_entries}
 use Rattle.server_engine.proofs.Midways.{found_is}
 use Rattle.server_engine.proofs.OneServer as one
 use Rattle.server_engine.proofs.OneServer.{not_over, quiet_state}
@@ -73,13 +73,13 @@ begins {H} digest h database size least most c hasher cells_are sessions_are = r
     };
   });
   quiet = subst (λ (ys : List (Session H)). Each IsInactive (seats_seen ys)) (sym sessions_are) tt;
-  below = subst (λ (cs : List KeptCell). pending_at (cells_seen cs) < size) (sym cells_are) (omega (arith, least));
+  within = subst (λ (cs : List KeptCell). pending_at (cells_seen cs) ≤ size) (sym cells_are) (omega arith);
 }
 
 -- ---- a session more
 
 module _ {H : Type 0} (digest : H → List ℕ → List ℕ) (h : H) (a : CoreInput) (c : Core H) (m : Stands digest h c a) (name : Text) (y : Session H)
-    (its_begin : (v : Server) (s : SeatState) → s.present ≡ true → s.role ≡ idle → Begins digest h v name s y.seat) (between : IsBetween y.seat) (same : y.seat.name ≡ name) (no_text : y.entries ≡ []) (no_last : y.last ≡ None) (no_images : y.images ≡ []) where
+    (its_begin : (v : Server) (s : SeatState) → s.present ≡ true → s.role ≡ idle → Begins digest h v name s y.seat) (between : IsBetween y.seat) (same : y.seat.name ≡ name) (no_text : y.entries ≡ []) (no_answer : y.answer ≡ None) (no_last : y.last ≡ None) (no_images : y.images ≡ []) where
   -- it has no transaction
   none_runs : (s : SeatState) (w : Sits digest h y.seat (sits s (new_session name s))) → y.seat.running ≡ None
   none_runs s w = by y.seat.running w.x.open_one w.runs (ap (λ (x : LawSession). x.open_one) (sym (one_session (session (new_session name s)) (new_session name s) w.x refl w.role)))
@@ -111,7 +111,7 @@ module _ {H : Type 0} (digest : H → List ℕ → List ℕ) (h : H) (a : CoreIn
   holds_more idle_seat = record {
     told = m.holds.told ++ told_nothing name ∷ [];
     names = seen_last (λ (k : SessionOutput). k.transcript.session) m.holds.told (told_nothing name) ∙ ap (λ (ns : List Text). ns ++ name ∷ []) m.holds.names;
-    shown = both_last Shows c.sessions.items m.holds.told m.holds.shown y (told_nothing name) (record { name = same; entries = shown_entries y no_last ∙ no_text; images = no_images; none_last = λ runs. no_last });
+    shown = both_last Shows c.sessions.items m.holds.told m.holds.shown y (told_nothing name) (record { name = same; entries = shown_entries y no_answer no_last ∙ no_text; images = no_images; none_last = λ runs. no_last; answer = none_lies y.seat.point y.answer y.seat.running no_answer });
     keep = m.holds.keep;
     timed = subst (Each (IsTimed a.moments)) (sym seats_more) (each_last (IsTimed a.moments) (seats_seen c.sessions.items) m.holds.timed y.seat (inr (inl idle_seat)));
     served = λ v serves. subst (λ (seats : List (Seat H)). OnServer digest h v (with_session name a) (m.holds.told ++ told_nothing name ∷ []) (cells_seen c.cells.items) seats) (sym seats_more) (on_server v (m.holds.served v serves));
@@ -122,7 +122,7 @@ module _ {H : Type 0} (digest : H → List ℕ → List ℕ) (h : H) (a : CoreIn
     hasher = hasher ∙ m.hasher;
     holds = subst₂ (λ (cs : List KeptCell) (ys : List (Session H)). Holds digest h cs ys (with_session name a)) (sym cells_are) (sym sessions_are) (holds_more no_transaction);
     quiet = subst (λ (ys : List (Session H)). Each IsInactive (seats_seen ys)) (sym sessions_are) (subst (Each IsInactive) (sym seats_more) (each_last IsInactive (seats_seen c.sessions.items) m.quiet y.seat (inl between)));
-    below = subst (λ (cs : List KeptCell). pending_at (cells_seen cs) < a.size) (sym cells_are) m.below;
+    within = subst (λ (cs : List KeptCell). pending_at (cells_seen cs) ≤ a.size) (sym cells_are) m.within;
   }
     where
       no_transaction : y.seat.running ≡ None
@@ -160,13 +160,13 @@ module _ {H : Type 0} (digest : H → List ℕ → List ℕ) (h : H) (a : CoreIn
     pub lies : get_elem? (cells_seen c.cells.items) ledger_at ≡ some (Ledger l)
     lies = seen_at (λ (x : KeptCell). x.cell) c.cells.items ledger_at (record { cell = Ledger l; hash = hash }) there
 
-    below_now : pending_in l < a.size
-    below_now = subst (λ (n : ℕ). n < a.size) (ap pending_found lies) m.below
+    below_now : pending_at (cells_seen c.cells.items) < a.size → pending_in l < a.size
+    below_now below = subst (λ (n : ℕ). n < a.size) (ap pending_found lies) below
 
-    ended_on : (v : Server) → Serves (digest h) statement_of v → HasEnded v a.database a.size a.names a.lines a.moments (map (λ k. k.transcript) told) (map (λ k. k.images) told) l.items l.issued
-    ended_on v serves = let o = m.holds.served v serves in
+    ended_on : pending_at (cells_seen c.cells.items) < a.size → (v : Server) → Serves (digest h) statement_of v → HasEnded v a.database a.size a.names a.lines a.moments (map (λ k. k.transcript) told) (map (λ k. k.images) told) l.items l.issued
+    ended_on below v serves = let o = m.holds.served v serves in
         subst (λ (ns : List Text). HasEnded v a.database a.size ns a.lines a.moments (map (λ k. k.transcript) told) (map (λ k. k.images) told) l.items l.issued) m.holds.names
-        (sessions_have_ended (stand_at_end a.phase o.stand) (all_rest o.states o.sit) l lies below_now ids)
+        (sessions_have_ended (stand_at_end a.phase o.stand) (all_rest o.states o.sit) l lies (below_now below) ids)
 
     pub database_is : (v : Server) → Serves (digest h) statement_of v → l.database ≡ a.database
     database_is v serves = let o = m.holds.served v serves in
@@ -176,10 +176,10 @@ module _ {H : Type 0} (digest : H → List ℕ → List ℕ) (h : H) (a : CoreIn
         one_ledger : (x y : LedgerCell) → Ledger x ≡ Ledger y → x ≡ y
         one_ledger x y e = cc
 
-    pub has_left : (v : Server) → Serves (digest h) statement_of v → (p : Parts H) → p.journal.version ≡ JOURNAL_VERSION → p.journal.database ≡ l.database → p.journal.items ≡ l.items → p.digests ≡ l.issued
+    pub has_left : pending_at (cells_seen c.cells.items) < a.size → (v : Server) → Serves (digest h) statement_of v → (p : Parts H) → p.journal.version ≡ JOURNAL_VERSION → p.journal.database ≡ l.database → p.journal.items ≡ l.items → p.digests ≡ l.issued
         → map (λ y. y.entries) p.sessions.items ≡ map texts_shown c.sessions.items → map (λ y. y.images) p.sessions.items ≡ map (λ y. y.images) c.sessions.items
         → p.image ≡ image_bytes (image_of (digest h) statement_of a.database l.items) → FitsImageFormat (digest h) statement_of a.database l.items → HasLeft (digest h) a p
-    has_left some_v some_serves p version database items issued texts_are kept_are image room = record {
+    has_left below some_v some_serves p version database items issued texts_are kept_are image room = record {
       image = image ∙ ap (λ (J : List JournalItem). image_bytes (image_of (digest h) statement_of a.database J)) (sym items);
       room = subst (λ (J : List JournalItem). FitsImageFormat (digest h) statement_of a.database J) (sym items) room;
       transcripts = map (λ k. k.transcript) told;
@@ -190,7 +190,7 @@ module _ {H : Type 0} (digest : H → List ℕ → List ℕ) (h : H) (a : CoreIn
       version = version;
       database = database ∙ database_is some_v some_serves;
       ended = λ v serves. subst₂ (λ (J : List JournalItem) (G : List Digest). HasEnded v a.database a.size a.names a.lines a.moments (map (λ k. k.transcript) told) (map (λ y. y.images) p.sessions.items) J G) (sym items) (sym issued)
-          (subst (λ (images : List (List KeptImage)). HasEnded v a.database a.size a.names a.lines a.moments (map (λ k. k.transcript) told) images l.items l.issued) (sym images_are) (ended_on v serves));
+          (subst (λ (images : List (List KeptImage)). HasEnded v a.database a.size a.names a.lines a.moments (map (λ k. k.transcript) told) images l.items l.issued) (sym images_are) (ended_on below v serves));
     }
       where
         images_are : map (λ (y : Session H). y.images) p.sessions.items ≡ map (λ k. k.images) told

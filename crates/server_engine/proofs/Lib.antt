@@ -6,14 +6,16 @@ pub mod Ends
 pub mod FirstCells
 pub mod Holding
 pub mod Midways
+pub mod LastAnswers
 pub mod LastLines
 pub mod OneServer
-pub mod Outside
 pub mod Pairs
 pub mod Pending
+pub mod Settled
 pub mod Texts
 pub mod Turns
 pub mod Unchanged
+pub mod Waiting
 pub mod Within
 pub use Rattle.law_sequential.proofs.SameNames
 pub use Rattle.law_sequential.proofs.SessionOutput

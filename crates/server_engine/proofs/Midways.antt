@@ -1,5 +1,5 @@
 -- A core inside a statement of one session, with each thing that is done.
-use Rattle.std.proofs.Common.{◌≡◌, ◌⊎◌, ◌<◌, ◌≤◌, ◌+◌, ◌-◌, ◌*◌, ℕ, List, ◌++◌, Option, length, slice_set, refl, sym, ap, subst, subst₂, ◌∙◌, inl, inr, ⊎_elim, arith}
+use Rattle.std.proofs.Common.{◌≡◌, ◌⊎◌, ◌<◌, ◌≤◌, ◌+◌, ◌-◌, ◌*◌, ℕ, List, ◌++◌, Option, None, length, slice_set, refl, sym, ap, subst, subst₂, ◌∙◌, inl, inr, ⊎_elim, arith}
 use mathlib.Core.Option as maybe
 use mathlib.Core.Option.{some, none, some-injective}
 use lib.ListN.{get_elem?}
@@ -12,7 +12,7 @@ use Rattle.spec_protocol.proofs.Places.{at_set, set_again, set_else, set_here, s
 use Rattle.server_visits.specs.Full.{ClosesFull, ClosesOne}
 use Rattle.server_session.specs.KeptCell.{KeptCell, Keeps}
 use Rattle.server_session.specs.Needs.{need_of, point_need, visits_left}
-use Rattle.server_session.specs.ControlPoints.{IsBetween, IsLeaving, IsOver, IsOverAt, KeepsStatement, IsSamePhase}
+use Rattle.server_session.specs.ControlPoints.{IsBetween, IsOver, IsOverAt, KeepsStatement, IsSamePhase}
 use Rattle.server_session.specs.Steps.{Among, AmongAll, ComesOn, Visits, VisitsAll, images_kept}
 use Rattle.server_session.specs.SessionOutput.{pending_of}
 use Rattle.server_session.specs.declared.need.NextVisit.{NextVisit}
@@ -20,9 +20,12 @@ use Rattle.server_session.specs.declared.need.NextVisit.TheVariants as need
 use Rattle.server_session.specs.declared.seat.Seat.{Seat}
 use Rattle.server_session.specs.declared.stage.ControlPoint.{ControlPoint}
 use Rattle.server_session.specs.declared.stage.ControlPoint.TheVariants.{Between, Inside, Leaving, Over}
-use Rattle.server_session.proofs.Alone.{between_is}
+use Rattle.server_session.specs.declared.stage.Stage.TheVariants.{Keeping}
+use Rattle.server_session.specs.Sits.{Runs}
+use Rattle.server_session.proofs.Alone.{between_is, holds_at_point}
+use Rattle.server_session.proofs.Keeping.{keeping_point, no_running}
 use Rattle.server_engine.specs.CoreInput.{CoreInput}
-use Rattle.server_engine.specs.IsMidway.{OthersInactive, IsMidway, IsBelow, IsWithin, ChangesSession, WentOn, size_found, width, visits_found, work, LessWork, NoMorePending}
+use Rattle.server_engine.specs.IsMidway.{ChangesSession, GoesOn, HasRoom, IsMidway, IsRoomy, IsSettled, IsSettledAt, LessWork, OthersInactive, WentOn, size_found, width, visits_found, work}
 use Rattle.server_engine.specs.Standing.{cells_seen, seats_seen, pending_at, pending_found, IsInactive, Holds, Stands, Found}
 use Rattle.server_engine.specs.declared.one_thread.Core.{Core}
 use Rattle.server_engine.specs.declared.session.Session.{Session}
@@ -106,7 +109,7 @@ module _ {H : Type 0} (digest : H → List ℕ → List ℕ) (h : H) (b : CoreIn
   sessions_then = slice_set c.sessions.items j z
 
   -- a core with this session at its place
-  pub midway_then : Holds digest h then_cells sessions_then b → (IsOver z.seat → ⊥) → IsBetween z.seat ⊎ In z.seat.started b.moments → IsMidway digest h d b j
+  midway_then : Holds digest h then_cells sessions_then b → (IsOver z.seat → ⊥) → IsBetween z.seat ⊎ In z.seat.started b.moments → IsMidway digest h d b j
   midway_then holds runs timed = record {
     hasher = hasher;
     holds = subst₂ (λ (cs : List KeptCell) (ys : List (Session H)). Holds digest h cs ys b) (sym cells_are) (sym sessions_are) holds;
@@ -115,6 +118,14 @@ module _ {H : Type 0} (digest : H → List ℕ → List ℕ) (h : H) (b : CoreIn
     there = subst (λ (ys : List (Session H)). get_elem? ys j ≡ some z) (sym sessions_are) (set_here c.sessions.items j z y there);
     runs = runs;
     timed = timed;
+  }
+
+  -- it goes on
+  pub goes_then : Holds digest h then_cells sessions_then b → (IsOver z.seat → ⊥) → IsBetween z.seat ⊎ In z.seat.started b.moments → HasRoom b.size (cells_seen then_cells) z.seat → GoesOn digest h d b j
+  unfolding midway_then
+  goes_then holds runs timed room = record {
+    midway = midway_then holds runs timed;
+    room = subst (λ (cs : List KeptCell). HasRoom b.size (cells_seen cs) z.seat) (sym cells_are) room;
   }
 
   quiet_there : IsInactive z.seat → Each IsInactive (seats_seen sessions_then)
@@ -127,12 +138,12 @@ module _ {H : Type 0} (digest : H → List ℕ → List ℕ) (h : H) (b : CoreIn
           (at_set (seats_seen c.sessions.items) j k z.seat x (ap (λ (seats : List (Seat H)). get_elem? seats k) (sym (seen_set (λ (u : Session H). u.seat) c.sessions.items j z)) ∙ e))
 
   -- it is between statements then
-  pub stands_then : Holds digest h then_cells sessions_then b → IsInactive z.seat → pending_at (cells_seen then_cells) < b.size → Stands digest h d b
-  stands_then holds quiet below = record {
+  pub stands_then : Holds digest h then_cells sessions_then b → IsInactive z.seat → pending_at (cells_seen then_cells) ≤ b.size → Stands digest h d b
+  stands_then holds quiet within = record {
     hasher = hasher;
     holds = subst₂ (λ (cs : List KeptCell) (ys : List (Session H)). Holds digest h cs ys b) (sym cells_are) (sym sessions_are) holds;
     quiet = subst (λ (ys : List (Session H)). Each IsInactive (seats_seen ys)) (sym sessions_are) (quiet_there quiet);
-    below = subst (λ (cs : List KeptCell). pending_at (cells_seen cs) < b.size) (sym cells_are) below;
+    within = subst (λ (cs : List KeptCell). pending_at (cells_seen cs) ≤ b.size) (sym cells_are) within;
   }
 
 -- ---- visits
@@ -154,33 +165,45 @@ module _ {H : Type 0} (digest : H → List ℕ → List ℕ) (h : H) (a : CoreIn
   pub among_cells : need_of y.seat ≡ need.All → AmongAll digest y.seat c.cells.items
   among_cells needs = holding.among_all_holds digest h m.holds j y there m.others its_runs needs
 
-  module _ (below : IsBelow c a) (d : Core H) (hasher : d.hasher ≡ c.hasher) where
+  -- who needs all cells has a statement that may still commit, so no block is full
+  pub all_below : need_of y.seat ≡ need.All → HasRoom a.size (cells_seen c.cells.items) y.seat → pending_at (cells_seen c.cells.items) < a.size
+  all_below needs room = ⊎_elim (λ (l : pending_at (cells_seen c.cells.items) < a.size). l) (λ f. absurd (not_settled f.1)) room
+    where
+      at_keeping : y.seat.point ≡ Inside Keeping
+      at_keeping = keeping_point y.seat.point y.seat.running needs
+
+      not_settled : IsSettled y.seat → ⊥
+      not_settled st = let v = holding.somewhere digest h m.holds in
+          let w = holding.sits digest h m.holds j y there m.others its_runs v.0 v.1 in
+          let none_open : w.x.open_one ≡ None = (holds_at_point digest h y.seat _ w (Inside Keeping) at_keeping).0 in
+          let none_runs : y.seat.running ≡ None = no_running digest h y.seat.running (subst (Runs digest h y.seat.running) none_open w.runs) in
+          subst₂ IsSettledAt at_keeping none_runs st
+
+  module _ (room : HasRoom a.size (cells_seen c.cells.items) y.seat) (d : Core H) (hasher : d.hasher ≡ c.hasher) where
     module _ (i : ℕ) (needs : need_of y.seat ≡ need.Cell i) (x x_then : KeptCell) (here : get_elem? c.cells.items i ≡ some x) (z : Seat H) (visits : Visits digest y.seat x x_then z) (stays : KeepsStatement y.seat z)
         (cells_are : d.cells.items ≡ slice_set c.cells.items i x_then) (sessions_are : d.sessions.items ≡ slice_set c.sessions.items j (seated y z)) where
-      pub visit_midway : IsMidway digest h d a j × IsWithin d a
-      visit_midway = (
-        midway_then digest h a j c d y (seated y z) (slice_set c.cells.items i x_then) there (hasher ∙ m.hasher) cells_are sessions_are m.others
-            (holding.visit_holds digest h m.holds j y there m.others its_runs x x_then i needs here below z visits time stays) (stays_not_over y.seat z stays) (inr (subst (λ (t : ℕ). In t a.moments) (sym stays.started) time)),
-        subst (λ (cs : List KeptCell). pending_at (cells_seen cs) ≤ a.size) (sym cells_are) (holding.within_then digest h m.holds j y there m.others its_runs x x_then i needs here below z visits),
-      )
+      pub visit_goes_on : GoesOn digest h d a j
+      visit_goes_on = goes_then digest h a j c d y (seated y z) (slice_set c.cells.items i x_then) there (hasher ∙ m.hasher) cells_are sessions_are m.others
+          (holding.visit_holds digest h m.holds j y there m.others its_runs x x_then i needs here room z visits time stays) (stays_not_over y.seat z stays) (inr (subst (λ (t : ℕ). In t a.moments) (sym stays.started) time))
+          (holding.room_then digest h m.holds j y there m.others its_runs x x_then i needs here room z visits)
         where
           time : In y.seat.started a.moments
           time = in_time (need.Cell i) needs (cell_not_done i)
 
     module _ (needs : need_of y.seat ≡ need.All) (z : Session H) (kept : Option KeptImage) (visits : VisitsAll digest y.seat c.cells.items kept z.seat) (stays : KeepsStatement y.seat z.seat)
         (cells_are : d.cells.items ≡ c.cells.items) (sessions_are : d.sessions.items ≡ slice_set c.sessions.items j z) where
-      pub image_midway : z.entries ≡ y.entries → z.last ≡ y.last → z.images ≡ y.images ++ images_kept kept → IsMidway digest h d a j × IsWithin d a
-      image_midway same last images = (
-        midway_then digest h a j c d y z c.cells.items there (hasher ∙ m.hasher) cells_are sessions_are m.others
-            (holding.image_holds digest h m.holds j y there m.others its_runs below z kept needs visits stays time same last images) (stays_not_over y.seat z.seat stays) (inr (subst (λ (t : ℕ). In t a.moments) (sym stays.started) time)),
-        subst (λ (cs : List KeptCell). pending_at (cells_seen cs) ≤ a.size) (sym cells_are) (omega (arith, below)),
-      )
+      pub image_goes_on : z.entries ≡ y.entries → z.answer ≡ y.answer → z.last ≡ y.last → z.images ≡ y.images ++ images_kept kept → GoesOn digest h d a j
+      image_goes_on same answer last images = goes_then digest h a j c d y z c.cells.items there (hasher ∙ m.hasher) cells_are sessions_are m.others
+          (holding.image_holds digest h m.holds j y there m.others its_runs below z kept needs visits stays time same answer last images) (stays_not_over y.seat z.seat stays) (inr (subst (λ (t : ℕ). In t a.moments) (sym stays.started) time)) (inl below)
         where
+          below : pending_at (cells_seen c.cells.items) < a.size
+          below = all_below needs room
+
           time : In y.seat.started a.moments
           time = in_time need.All needs all_not_done
 
   -- with less to do
-  module _ (below : IsBelow c a) (i : ℕ) (needs : need_of y.seat ≡ need.Cell i) (x x_then : KeptCell) (here : get_elem? c.cells.items i ≡ some x) (z : Seat H) (visits : Visits digest y.seat x x_then z) where
+  module _ (room : HasRoom a.size (cells_seen c.cells.items) y.seat) (i : ℕ) (needs : need_of y.seat ≡ need.Cell i) (x x_then : KeptCell) (here : get_elem? c.cells.items i ≡ some x) (z : Seat H) (visits : Visits digest y.seat x x_then z) where
     left_now : visits_found (get_elem? c.sessions.items j) ≡ visits_left y.seat
     left_now = ap visits_found there
 
@@ -191,75 +214,72 @@ module _ {H : Type 0} (digest : H → List ℕ → List ℕ) (h : H) (a : CoreIn
         ⊎ ((visits_found (get_elem? (slice_set c.sessions.items j (seated y z)) j) ≡ visits_found (get_elem? c.sessions.items j)) × (pending_at (cells_seen (slice_set c.cells.items i x_then)) < pending_at (cells_seen c.cells.items)))
     visit_less comes = ⊎_elim
         (λ (l : visits_left z < visits_left y.seat). inl (subst₂ (λ (p q : ℕ). p < q) (sym left_then) (sym left_now) l))
-        (λ e. inr (left_then ∙ ap (λ (u : Seat H). visits_left u) e.0 ∙ sym left_now, holding.fewer_then digest h m.holds j y there m.others its_runs x x_then i needs here below z visits e.1))
+        (λ e. inr (left_then ∙ ap (λ (u : Seat H). visits_left u) e.0 ∙ sym left_now, holding.fewer_then digest h m.holds j y there m.others its_runs x x_then i needs here room z visits e.1))
         comes
-
-    -- and at its end no more is pending
-    pub visit_adds_none : IsLeaving y.seat → pending_at (cells_seen (slice_set c.cells.items i x_then)) ≤ pending_at (cells_seen c.cells.items)
-    visit_adds_none leaves = holding.none_more_then digest h m.holds j y there m.others its_runs x x_then i needs here below z visits leaves
 
   pub image_less : (z : Session H) → visits_left z.seat < visits_left y.seat → visits_found (get_elem? (slice_set c.sessions.items j z) j) < visits_found (get_elem? c.sessions.items j)
   image_less z l = subst₂ (λ (p q : ℕ). p < q) (sym (ap visits_found (set_here c.sessions.items j z y there))) (sym (ap visits_found there)) l
 
--- ---- a full block
+-- ---- the ledger's cell, and a full block
 
-module _ {H : Type 0} (digest : H → List ℕ → List ℕ) (h : H) (a : CoreInput) (j : ℕ) (c : Core H) (m : IsMidway digest h c a j) where
+module _ {H : Type 0} (digest : H → List ℕ → List ℕ) (h : H) (a : CoreInput) (c : Core H) (o : Holds digest h c.cells.items c.sessions.items a) where
   abbrev server_cells : List Cell
   server_cells = cells_seen c.cells.items
 
   abbrev some_ledger : LedgerCell
-  some_ledger = one.ledger digest h (holding.somewhere digest h m.holds).2
+  some_ledger = one.ledger digest h (holding.somewhere digest h o).2
 
-  -- the ledger's cell is the second
+  -- it is the second
   pub ledger_near : ledger_at < length c.cells.items
-  ledger_near = let e = holding.as_many digest h m.holds in omega (arith, e)
+  ledger_near = let e = holding.as_many digest h o in omega (arith, e)
 
   module _ (x : KeptCell) (here : get_elem? c.cells.items ledger_at ≡ some x) where
     pub is_ledger : x.cell ≡ Ledger some_ledger
-    is_ledger = some-injective x.cell (Ledger some_ledger) (sym (seen_at (λ (u : KeptCell). u.cell) c.cells.items ledger_at x here) ∙ (holding.cells_are digest h m.holds).has_ledger)
+    is_ledger = some-injective x.cell (Ledger some_ledger) (sym (seen_at (λ (u : KeptCell). u.cell) c.cells.items ledger_at x here) ∙ (holding.cells_are digest h o).has_ledger)
 
     pub keeps_hash : Keeps (digest h) x
-    keeps_hash = each_there (Keeps (digest h)) c.cells.items m.holds.keep ledger_at x here
+    keeps_hash = each_there (Keeps (digest h)) c.cells.items o.keep ledger_at x here
 
     pending_now : pending_at server_cells ≡ pending_in some_ledger
-    pending_now = ap pending_found (holding.cells_are digest h m.holds).has_ledger
+    pending_now = ap pending_found (holding.cells_are digest h o).has_ledger
 
     pending_closed : (n : ℕ) → pending_in (closed_by (digest h) n some_ledger) ≡ pending_in some_ledger - n
-    pending_closed n = let v = holding.somewhere digest h m.holds in subst (λ (g : List ℕ → List ℕ). pending_in (closed_by g n some_ledger) ≡ pending_in some_ledger - n) v.1.hash (pending_after v.0 n some_ledger)
+    pending_closed n = let v = holding.somewhere digest h o in subst (λ (g : List ℕ → List ℕ). pending_in (closed_by g n some_ledger) ≡ pending_in some_ledger - n) v.1.hash (pending_after v.0 n some_ledger)
 
-    module _ (within : IsWithin c a) (x_then : KeptCell) (closes : ClosesFull (digest h) x.cell x_then.cell) where
+    module _ (within : pending_at server_cells ≤ a.size) (x_then : KeptCell) (closes : ClosesFull (digest h) x.cell x_then.cell) where
       closes_so : ClosesOne (digest h) some_ledger x_then.cell
       closes_so = subst (λ (u : Cell). ClosesFull (digest h) u x_then.cell) is_ledger closes
 
-      pending_then : (pending_of x_then.cell < a.size) × (pending_of x_then.cell ≤ pending_in some_ledger)
-      pending_then = let size = holding.size_is digest h m.holds in ⊎_elim
+      pending_then : pending_of x_then.cell < a.size
+      pending_then = let size = holding.size_is digest h o in ⊎_elim
           (λ (f : (some_ledger.block_size ≤ pending_in some_ledger) × (x_then.cell ≡ Ledger (closed_by (digest h) some_ledger.block_size some_ledger))).
           let p : pending_of x_then.cell ≡ pending_in some_ledger - some_ledger.block_size = ap pending_of f.1 ∙ pending_closed some_ledger.block_size in
-          let some_size = (holding.somewhere digest h m.holds).2.stand.sequential_run.some_size in
-          (omega (arith, p, f.0, size, within, pending_now, some_size), omega (arith, p)))
-          (λ f. let p : pending_of x_then.cell ≡ pending_in some_ledger = ap pending_of f.1 in (omega (arith, p, f.0, size), omega (arith, p)))
+          let some_size = (holding.somewhere digest h o).2.stand.sequential_run.some_size in
+          omega (arith, p, f.0, size, within, pending_now, some_size))
+          (λ f. let p : pending_of x_then.cell ≡ pending_in some_ledger = ap pending_of f.1 in omega (arith, p, f.0, size))
           closes_so
 
       at_ledger_then : pending_at (cells_seen (slice_set c.cells.items ledger_at x_then)) ≡ pending_of x_then.cell
       at_ledger_then = ap pending_found (seen_at (λ (u : KeptCell). u.cell) (slice_set c.cells.items ledger_at x_then) ledger_at x_then (set_here c.cells.items ledger_at x_then x here))
 
-      module _ (keeps : Keeps (digest h) x_then) (d : Core H) (hasher : d.hasher ≡ c.hasher) (cells_are : d.cells.items ≡ slice_set c.cells.items ledger_at x_then) (sessions_are : d.sessions.items ≡ c.sessions.items) where
-        pub close_midway : IsMidway digest h d a j × IsBelow d a
-        close_midway = (
-          record {
-            hasher = hasher ∙ m.hasher;
-            holds = subst₂ (λ (cs : List KeptCell) (ys : List (Session H)). Holds digest h cs ys a) (sym cells_are) (sym sessions_are) (holding.close_holds digest h m.holds j m.y m.there m.others within x x_then here closes keeps);
-            others = subst (λ (ys : List (Session H)). OthersInactive (seats_seen ys) j) (sym sessions_are) m.others;
-            y = m.y;
-            there = subst (λ (ys : List (Session H)). get_elem? ys j ≡ some m.y) (sym sessions_are) m.there;
-            runs = m.runs;
-            timed = m.timed;
-          },
-          subst (λ (cs : List KeptCell). pending_at (cells_seen cs) < a.size) (sym cells_are) (subst (λ (n : ℕ). n < a.size) (sym at_ledger_then) pending_then.0),
-        )
+      pub below_then : pending_at (cells_seen (slice_set c.cells.items ledger_at x_then)) < a.size
+      below_then = subst (λ (n : ℕ). n < a.size) (sym at_ledger_then) pending_then
 
-      pub close_less : pending_at (cells_seen (slice_set c.cells.items ledger_at x_then)) ≤ pending_at server_cells
-      close_less = subst₂ (λ (p q : ℕ). p ≤ q) (sym at_ledger_then) (sym pending_now) pending_then.1
+-- where it is closed, if there is one
+pub close_roomy : {H : Type 0} (digest : H → List ℕ → List ℕ) (h : H) (a : CoreInput) (c : Core H) (m : Stands digest h c a) (x : KeptCell) → get_elem? c.cells.items ledger_at ≡ some x → (x_then : KeptCell) → ClosesFull (digest h) x.cell x_then.cell → Keeps (digest h) x_then
+    → (d : Core H) → d.hasher ≡ c.hasher → d.cells.items ≡ slice_set c.cells.items ledger_at x_then → d.sessions.items ≡ c.sessions.items → IsRoomy digest h d a
+close_roomy {H} digest h a c m x here x_then closes keeps d hasher cells_are sessions_are = record {
+  stands = record {
+    hasher = hasher ∙ m.hasher;
+    holds = subst₂ (λ (cs : List KeptCell) (ys : List (Session H)). Holds digest h cs ys a) (sym cells_are) (sym sessions_are) (holding.close_holds digest h m.holds m.quiet m.within x x_then here closes keeps);
+    quiet = subst (λ (ys : List (Session H)). Each IsInactive (seats_seen ys)) (sym sessions_are) m.quiet;
+    within = let l = below in omega (arith, l);
+  };
+  below = below;
+}
+  where
+    below : pending_at (cells_seen d.cells.items) < a.size
+    below = subst (λ (cs : List KeptCell). pending_at (cells_seen cs) < a.size) (sym cells_are) (below_then digest h a c m.holds x here m.within x_then closes)
 
 -- ---- less to do
 
@@ -267,19 +287,15 @@ module _ {H : Type 0} (digest : H → List ℕ → List ℕ) (h : H) (a : CoreIn
   width_is : (c : Core H) → IsMidway digest h c a j → width (cells_seen c.cells.items) ≡ a.size + 2
   width_is c m = ap (λ (n : ℕ). n + 2) (ap size_found (holding.cells_are digest h m.holds).has_ledger ∙ holding.size_is digest h m.holds)
 
-  -- a visit, and then perhaps the closing of a block
-  pub work_falls : (c d e : Core H) → IsMidway digest h c a j → IsMidway digest h e a j → IsBelow e a → LessWork j c d → e.sessions ≡ d.sessions → NoMorePending d e → work j e < work j c
-  work_falls c d e m n below less same pending = subst₂ (λ (w x : ℕ). visits_found (get_elem? e.sessions.items j) * w + pending_at (cells_seen e.cells.items) < visits_found (get_elem? c.sessions.items j) * x + pending_at (cells_seen c.cells.items))
-      (sym (width_is e n)) (sym (width_is c m))
-      (less_work (a.size + 2) (visits_found (get_elem? e.sessions.items j)) (visits_found (get_elem? c.sessions.items j)) (pending_at (cells_seen e.cells.items)) (pending_at (cells_seen c.cells.items)) both (omega (arith, below)))
-    where
-      as_many : visits_found (get_elem? e.sessions.items j) ≡ visits_found (get_elem? d.sessions.items j)
-      as_many = ap (λ ys. visits_found (get_elem? ys.items j)) same
+  -- so no block has more than it takes
+  pub room_within : (size : ℕ) (cells : List Cell) (y : Seat H) → HasRoom size cells y → pending_at cells ≤ size
+  room_within size cells y room = ⊎_elim (λ (l : pending_at cells < size). omega (arith, l)) (λ f. let e = f.0 in omega (arith, e)) room
 
-      both : (visits_found (get_elem? e.sessions.items j) < visits_found (get_elem? c.sessions.items j)) ⊎ ((visits_found (get_elem? e.sessions.items j) ≡ visits_found (get_elem? c.sessions.items j)) × (pending_at (cells_seen e.cells.items) < pending_at (cells_seen c.cells.items)))
-      both = ⊎_elim
-          (λ (l : visits_found (get_elem? d.sessions.items j) < visits_found (get_elem? c.sessions.items j)). inl (omega (arith, l, as_many)))
-          (λ f. inr (as_many ∙ f.0, omega (arith, f.1, pending))) less
+  pub work_falls : (c d : Core H) → IsMidway digest h c a j → GoesOn digest h d a j → LessWork j c d → work j d < work j c
+  work_falls c d m n less = subst₂ (λ (w x : ℕ). visits_found (get_elem? d.sessions.items j) * w + pending_at (cells_seen d.cells.items) < visits_found (get_elem? c.sessions.items j) * x + pending_at (cells_seen c.cells.items))
+      (sym (width_is d n.midway)) (sym (width_is c m))
+      (less_work (a.size + 2) (visits_found (get_elem? d.sessions.items j)) (visits_found (get_elem? c.sessions.items j)) (pending_at (cells_seen d.cells.items)) (pending_at (cells_seen c.cells.items)) less
+      (let l = room_within a.size (cells_seen d.cells.items) n.midway.y.seat n.room in omega (arith, l)))
 
 -- ---- one thing after another
 

@@ -21,13 +21,14 @@ use Rattle.spec_protocol.proofs.Places.{set_same}
 use Rattle.spec_protocol.specs.Serves.{Serves}
 use Rattle.law_sequential.specs.EndsLast.{Phase, ending, InPhase}
 use Rattle.law_sequential.specs.Sessions.{SessionOutput, told_with, Runs, IsOver as HasEnded, IsShown, EachShown, SessionsStand, OthersInactive}
-use Rattle.law_sequential.proofs.Goes.{since, ledger_is, sized, all_silent}
-use Rattle.law_sequential.proofs.SeatOn.{alone_on, over_now, visit_on, close_on}
-use Rattle.law_sequential.proofs.SessionsStand.{ShownAt, shown_at}
+use Rattle.law_sequential.specs.InStep.{Waits}
+use Rattle.law_sequential.proofs.Goes.{since, ledger_is, sized, all_silent, close_more}
+use Rattle.law_sequential.proofs.SeatOn.{alone_on, over_now, waits_by_anonymous_acts}
+use Rattle.law_sequential.proofs.SessionsStand.{ShownAt, shown_at, cells_on}
 use Rattle.server_visits.specs.Full.{ClosesOne}
 use Rattle.server_session.specs.KeptCell.{KeptCell, Keeps}
 use Rattle.server_session.specs.Needs.{need_of}
-use Rattle.server_session.specs.ControlPoints.{IsBetween, IsLeaving, IsOver, IsOverAt}
+use Rattle.server_session.specs.ControlPoints.{IsBetween, IsOver, IsOverAt}
 use Rattle.server_session.specs.Sits.{Sits, IsControlPoint, left_of, place_seen}
 use Rattle.server_session.specs.Steps.{Steps, Answers, Ends, Among, Visits, IsVisit, last_entries, end_of, entries_at}
 use Rattle.server_session.specs.SessionOutput.{size_of, pending_of}
@@ -37,10 +38,12 @@ use Rattle.server_session.specs.declared.stage.ControlPoint.{ControlPoint}
 use Rattle.server_session.specs.declared.stage.ControlPoint.TheVariants.{Between, Inside, Leaving, Over}
 use Rattle.server_session.proofs.Alone.{between_is}
 use Rattle.server_engine.specs.CoreInput.{CoreInput, with_lines}
+use Rattle.server_engine.specs.IsMidway.{HasRoom, IsSettled}
 use Rattle.server_engine.specs.Standing.{SitsOrIsOver, IsInactive, OnServer, pending_at, pending_found}
 use Rattle.server_engine.proofs.AnonymousActs.{plain_nameless, plain_phased, visit_phased, nameless, for_digest, one_more_pending, alone_nameless, adds_gains}
-use Rattle.server_engine.proofs.Outside.{leaving_outside, outside_adds_none}
 use Rattle.server_engine.proofs.Pairs.{Beside, beside, behind, both_set}
+use Rattle.server_engine.proofs.Settled.{commit_settles, seat_settled, settled_adds_none, settled_waits, state_settled, still_settled}
+use Rattle.server_engine.proofs.Waiting.{visit_waiting}
 
 -- ---- seats
 
@@ -244,13 +247,22 @@ module _ {H : Type 0} (digest : H → List ℕ → List ℕ) (h : H) {v : Server
         }
 
         -- it visits a cell
-        module _ (c d : KeptCell) (i : ℕ) (needs : need_of y ≡ need.Cell i) (here : get_elem? cells i ≡ some c.cell) (keeps : Keeps (digest h) c) (below : pending_at cells < a.size)
+        module _ (c d : KeptCell) (i : ℕ) (needs : need_of y ≡ need.Cell i) (here : get_elem? cells i ≡ some c.cell) (keeps : Keeps (digest h) c) (room : HasRoom a.size cells y)
             (z : Seat H) (visits : Visits digest y c d z) where
+          most : pending_at cells ≤ a.size
+          most = ⊎_elim (λ (l : pending_at cells < a.size). omega (arith, l)) (λ f. omega (arith, f.0)) room
+
           abbrev its_fit : pending_of c.cell ≤ size_of c.cell
-          its_fit = fits (omega (arith, below)) i c.cell here
+          its_fit = fits most i c.cell here
 
           abbrev g : IsVisit digest y c (among c i needs here keeps) d z
           g = visits (among c i needs here keeps)
+
+          waits : Waits a.size ledger (g.may []).visit
+          unfolding among
+          waits = ⊎_elim
+              (λ (l : pending_at cells < a.size). waits_by_anonymous_acts a.size ledger (subst (λ (n : ℕ). n < a.size) pending_is l) (g.may []) (for_digest its_fit (g.did [])))
+              (λ f. settled_waits (g.may []) (g.lines []) a.size ledger (sym pending_is ∙ f.0) (seat_settled digest h y s w f.1)) room
 
           pub visit_goes : In y.started a.moments → OnServer digest h v a told (slice_set cells i d.cell) (slice_set seats j z)
           unfolding among
@@ -258,18 +270,26 @@ module _ {H : Type 0} (digest : H → List ℕ → List ℕ) (h : H) {v : Server
               (stand_in a.moments (no_more y.started a.moments g.moments time g.at_start)
               (subst₂ (λ (ls : List InputLine) (ks : List SessionOutput). SessionsStand v a.database a.size a.phase ls (a.moments ++ g.moments) ks (slice_set cells i d.cell) (slice_set o.states j g.t))
               (ap (λ (ls : List InputLine). a.lines ++ ls) (g.lines []) ∙ append-nil a.lines) (told_set told j k is_told)
-              (visit_on o.stand j s its.there k is_told others_inactive ((i, c.cell) ∷ []) (here, tt) i d.cell g.t (g.may []) (visit_phased a.phase (g.may []) (g.lines []) its_fit (g.did [])) (nameless its_fit (g.did []))
-              ledger o.stand.sequential_run.there (subst (λ (n : ℕ). n < a.size) pending_is below) (for_digest its_fit (g.did [])) [] [] g.moments g.moments (adds_gains g.adds) (each_in g.moments))))
+              (visit_waiting o.stand j s its.there k is_told others_inactive ((i, c.cell) ∷ []) (here, tt) i d.cell g.t (g.may []) (visit_phased a.phase (g.may []) (g.lines []) its_fit (g.did [])) (nameless its_fit (g.did []))
+              waits [] [] g.moments g.moments (adds_gains g.adds) (each_in g.moments))))
               (inl g.sits)
 
           -- one more is pending at most
-          pub at_most_full : pending_of d.cell ≤ pending_of c.cell + 1
-          at_most_full = one_more_pending its_fit (g.did [])
+          pub at_most_one_more : pending_of d.cell ≤ pending_of c.cell + 1
+          at_most_one_more = one_more_pending its_fit (g.did [])
 
-          -- at its end nothing more
-          pub none_more : IsLeaving y → pending_of d.cell ≤ pending_of c.cell
+          -- where more is pending it committed, and commits nothing more
+          pub grown_settled : pending_of c.cell < pending_of d.cell → IsSettled z
           unfolding among
-          none_more leaves = outside_adds_none (g.may []) (g.lines []) (leaving_outside digest h y s w leaves)
+          grown_settled l = state_settled digest h z g.t g.sits (commit_settles (g.may []) (g.lines []) l)
+
+          pub kept_settled : IsSettled y → IsSettled z
+          unfolding among
+          kept_settled st = state_settled digest h z g.t g.sits (still_settled (g.may []) (g.lines []) (seat_settled digest h y s w st))
+
+          pub none_more : IsSettled y → pending_of d.cell ≤ pending_of c.cell
+          unfolding among
+          none_more st = settled_adds_none (g.may []) (g.lines []) (seat_settled digest h y s w st)
 
           pub still_keeps : Keeps (digest h) d
           unfolding among
@@ -281,15 +301,17 @@ next_full : (c : LedgerCell) → c.block_size ≤ pending_in c → next_block c 
 next_full c l = let e : nat_le c.block_size (pending_in c) ≡ true = le-leb c.block_size (pending_in c) l in rw e refl
 
 module _ {H : Type 0} (digest : H → List ℕ → List ℕ) (h : H) {v : Server} {a : CoreInput} {told : List SessionOutput} {cells : List Cell} {seats : List (Seat H)} (o : OnServer digest h v a told cells seats)
-    (j : ℕ) (y : Seat H) (there : get_elem? seats j ≡ some y) (others : (k : ℕ) (z : Seat H) → k ≢ j → get_elem? seats k ≡ some z → IsInactive z) (k : SessionOutput) (is_told : get_elem? told j ≡ some k) (serves : Serves (digest h) statement_of v) where
+    (inactive : (k : ℕ) (z : Seat H) → get_elem? seats k ≡ some z → IsInactive z) (serves : Serves (digest h) statement_of v) where
   abbrev l : LedgerCell
   l = ledger digest h o
 
   sized_so : l.block_size ≡ a.size
   sized_so = block_size_is digest h o
 
-  abbrev x : Beside (SitsOrIsOver digest h) o.states j y
-  x = its digest h o j y there others
+  -- the first seat closes it
+  but_first : law.InactiveExcept (o.stand.parent ∷ o.states) 0
+  but_first zero u ne e = absurd (ne refl)
+  but_first (suc k) u ne e = let b = behind (SitsOrIsOver digest h) seats o.states o.sit k u e in quiet_state digest h b.x u b.is (inactive k b.x b.there)
 
   with_cells : (then_cells : List Cell) → SessionsStand v a.database a.size a.phase a.lines a.moments told then_cells o.states → OnServer digest h v a told then_cells seats
   with_cells then_cells stand = record { states = o.states; stand = stand; sit = o.sit }
@@ -300,10 +322,10 @@ module _ {H : Type 0} (digest : H → List ℕ → List ℕ) (h : H) {v : Server
       let full : pending_in l ≡ a.size = (let m : pending_in l ≤ a.size = subst (λ (n : ℕ). n ≤ a.size) (pending_is digest h o) most in let n : a.size ≤ pending_in l = subst (λ (n : ℕ). n ≤ pending_in l) sized_so f.0 in omega (arith, m, n)) in
       subst (λ (e : Cell). OnServer digest h v a told (slice_set cells ledger_at e) seats) (sym f.1)
       (with_cells (slice_set cells ledger_at (Ledger (closed_by (digest h) l.block_size l)))
-      (close_on o.stand j x.y x.there k is_told (others_inactive digest h o j y there others) l o.stand.sequential_run.there full l.block_size (closed_by (digest h) l.block_size l) (record {
+      (cells_on o.stand (close_more o.stand.sequential_run 0 o.stand.parent refl but_first l o.stand.sequential_run.there full l.block_size (closed_by (digest h) l.block_size l) (record {
         some = (let n : 1 ≤ a.size = o.stand.sequential_run.some_size in omega (arith, n, full));
         all = sym (next_full l f.0);
         cell = ap (λ (g : List ℕ → List ℕ). closed_by g l.block_size l) (sym serves.hash);
-      }))))
+      })))))
       (λ f. subst (λ (cs : List Cell). OnServer digest h v a told cs seats) (sym (set_same cells ledger_at d (o.stand.sequential_run.there ∙ ap some (sym f.1)))) o)
       closes

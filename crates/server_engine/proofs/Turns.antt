@@ -1,5 +1,6 @@
 -- A statement is taken up and answered, and a session begins and ends.
-use Rattle.std.proofs.Common.{◌≡◌, ◌⊎◌, ◌<◌, ℕ, true, false, List, [], ◌∷◌, ◌++◌, Option, Some, None, reverse, slice_set, refl, sym, ap, subst, ◌∙◌, inl, inr, ⊎_elim}
+use Rattle.std.proofs.Common.{◌≡◌, ◌⊎◌, ◌<◌, ◌≤◌, ℕ, true, false, List, [], ◌∷◌, ◌++◌, Option, Some, None, reverse, slice_set, refl, sym, ap, subst, ◌∙◌, inl, inr, ⊎_elim, arith}
+use Rattle.std.proofs.lemmas.Bool.{cases_lt}
 use mathlib.Core.Option.{some, some-injective}
 use lib.ListN.{get_elem?}
 use Rattle.spec_history.specs.Inputs.{InputLine}
@@ -24,14 +25,14 @@ use Rattle.server_session.specs.declared.stage.ControlPoint.{ControlPoint}
 use Rattle.server_session.specs.declared.stage.ControlPoint.TheVariants.{Between, Inside, Leaving, Over}
 use Rattle.server_session.specs.declared.stage.Stage.TheVariants.{Begun, AssigningId, Committing, RollingBack, Issuing, Keeping, Looking, Found as FoundIt, Made, LacksIndex, GoingBack, Replied, GivingBack, Answering as Answers}
 use Rattle.server_engine.specs.CoreInput.{CoreInput, at_end, with_line, with_lines}
-use Rattle.server_engine.specs.IsMidway.{OthersInactive, IsMidway, IsBelow, WentOn, IsAtSessionEnd}
+use Rattle.server_engine.specs.IsMidway.{GoesOn, OthersInactive, IsMidway, IsSettled, IsSettledAt, WentOn, IsAtSessionEnd}
 use Rattle.server_engine.specs.Standing.{cells_seen, seats_seen, pending_at, Shows, IsTimed, Holds, Stands}
-use Rattle.server_engine.specs.Written.{AnswersStatement, LeavesSession}
+use Rattle.server_engine.specs.Written.{AnswersStatement, IsApart, LeavesSession, texts_shown}
 use Rattle.server_engine.specs.declared.one_thread.Core.{Core}
 use Rattle.server_engine.specs.declared.session.Session.{Session}
 use Rattle.server_engine.proofs.Holding as holding
 use Rattle.server_engine.proofs.Holding.{seated, in_last}
-use Rattle.server_engine.proofs.Midways.{midway_then, stands_then, all_inactive_others, same_at}
+use Rattle.server_engine.proofs.Midways.{goes_then, stands_then, all_inactive_others, same_at}
 use Rattle.server_engine.proofs.OneServer as one
 use Rattle.server_engine.proofs.Pairs.{beside, each_there, seen_at}
 
@@ -156,16 +157,13 @@ module _ {H : Type 0} (digest : H → List ℕ → List ℕ) (h : H) (a : CoreIn
   name_is name e = let k = beside Shows c.sessions.items m.holds.told m.holds.shown j y there in
       k.is.name ∙ some-injective k.y.transcript.session name (sym (seen_at (λ (l : SessionOutput). l.transcript.session) m.holds.told j k.y k.there) ∙ ap (λ (ns : List Text). get_elem? ns j) m.holds.names ∙ e)
 
-  pub start_midway : IsBetween y.seat → a.phase ≡ running → (name text : Text) (now : ℕ) → get_elem? a.names j ≡ some name → (z : Seat H) → Starts digest y.seat text z → z.started ≡ now → z.name ≡ y.seat.name → IsUnderWay z
+  pub start_goes : pending_at (cells_seen c.cells.items) < a.size → y.answer ≡ None → IsBetween y.seat → a.phase ≡ running → (name text : Text) (now : ℕ) → get_elem? a.names j ≡ some name → (z : Seat H) → Starts digest y.seat text z → z.started ≡ now → z.name ≡ y.seat.name → IsUnderWay z
       → (d : Core H) → d.hasher ≡ c.hasher → d.cells.items ≡ c.cells.items → d.sessions.items ≡ slice_set c.sessions.items j (seated y z)
-      → IsMidway digest h d (with_line name text now a) j × IsBelow d (with_line name text now a)
-  start_midway b phase name text now named z starts started same under d hasher cells_are sessions_are = (
-    midway_then digest h (with_line name text now a) j c d y (seated y z) c.cells.items there (hasher ∙ m.hasher) cells_are sessions_are inactive_others
-        (subst (λ (n : Text). Holds digest h c.cells.items (slice_set c.sessions.items j (seated y z)) (with_lines (line_with n text) (now ∷ []) a)) (name_is name named)
-        (holding.start_holds digest h m.holds j y there inactive_others (open_runs b) z text now phase starts started same))
-        (under_way_not_over z under) (inr (subst (λ (t : ℕ). In t (a.moments ++ now ∷ [])) (sym started) (in_last a.moments now))),
-    subst (λ (cs : List KeptCell). pending_at (cells_seen cs) < a.size) (sym cells_are) m.below,
-  )
+      → GoesOn digest h d (with_line name text now a) j
+  start_goes below written b phase name text now named z starts started same under d hasher cells_are sessions_are = goes_then digest h (with_line name text now a) j c d y (seated y z) c.cells.items there (hasher ∙ m.hasher) cells_are sessions_are inactive_others
+      (subst (λ (n : Text). Holds digest h c.cells.items (slice_set c.sessions.items j (seated y z)) (with_lines (line_with n text) (now ∷ []) a)) (name_is name named)
+      (holding.start_holds digest h m.holds j y there inactive_others (open_runs b) z text now written phase starts started same))
+      (under_way_not_over z under) (inr (subst (λ (t : ℕ). In t (a.moments ++ now ∷ [])) (sym started) (in_last a.moments now))) (inl below)
 
 -- ---- it is answered
 
@@ -182,14 +180,22 @@ module _ {H : Type 0} (digest : H → List ℕ → List ℕ) (h : H) (a : CoreIn
   answer_not_between Leaving i b = b
   answer_not_between Over i b = b
 
-  pub answer_stands : IsBelow c a → IsAnswering y.seat → (z : Session H) → AnswersStatement digest y z → (d : Core H) → d.hasher ≡ c.hasher → d.cells.items ≡ c.cells.items → d.sessions.items ≡ slice_set c.sessions.items j z → Stands digest h d a
-  answer_stands below answers z w d hasher cells_are sessions_are = stands_then digest h a j c d y z c.cells.items there (hasher ∙ m.hasher) cells_are sessions_are m.others
-      (holding.answer_holds digest h m.holds j y there m.others its_runs z w (inr (inr (subst (λ (t : ℕ). In t a.moments) (sym w.started)
-      (⊎_elim (λ (b : IsBetween y.seat). absurd (answer_not_between y.seat.point answers b)) (λ i. i) its_time))))) (inl w.between) below
+  -- no answer of its own waits to be written down
+  pub its_written : IsAnswering y.seat → y.answer ≡ None
+  its_written answers = holding.none_inside y.seat.point y.answer y.seat.running answers (beside Shows c.sessions.items m.holds.told m.holds.shown j y there).is.answer
 
-  pub leave_stands : IsBelow c a → a.phase ≡ ending → (z : Session H) → LeavesSession digest y z → (d : Core H) → d.hasher ≡ c.hasher → d.cells.items ≡ c.cells.items → d.sessions.items ≡ slice_set c.sessions.items j z → Stands digest h d a
-  leave_stands below phase z w d hasher cells_are sessions_are = stands_then digest h a j c d y z c.cells.items there (hasher ∙ m.hasher) cells_are sessions_are m.others
-      (holding.over_holds digest h m.holds j y there m.others its_runs phase z w) (inr w.over) below
+  -- nor at its end one in the script
+  pub its_apart : MayEndSession y.seat → IsApart y.answer
+  its_apart ends = holding.apart_at_end y.seat.point y.answer y.seat.running ends (beside Shows c.sessions.items m.holds.told m.holds.shown j y there).is.answer
+
+  pub answer_stands : pending_at (cells_seen c.cells.items) ≤ a.size → IsAnswering y.seat → (z : Session H) → AnswersStatement digest y z → (d : Core H) → d.hasher ≡ c.hasher → d.cells.items ≡ c.cells.items → d.sessions.items ≡ slice_set c.sessions.items j z → Stands digest h d a
+  answer_stands within answers z w d hasher cells_are sessions_are = stands_then digest h a j c d y z c.cells.items there (hasher ∙ m.hasher) cells_are sessions_are m.others
+      (holding.answer_holds digest h m.holds j y there m.others its_runs (its_written answers) z w (inr (inr (subst (λ (t : ℕ). In t a.moments) (sym w.started)
+      (⊎_elim (λ (b : IsBetween y.seat). absurd (answer_not_between y.seat.point answers b)) (λ i. i) its_time))))) (inl w.between) within
+
+  pub leave_stands : pending_at (cells_seen c.cells.items) ≤ a.size → a.phase ≡ ending → (z : Session H) → LeavesSession digest y z → (d : Core H) → d.hasher ≡ c.hasher → d.cells.items ≡ c.cells.items → d.sessions.items ≡ slice_set c.sessions.items j z → Stands digest h d a
+  leave_stands within phase z w d hasher cells_are sessions_are = stands_then digest h a j c d y z c.cells.items there (hasher ∙ m.hasher) cells_are sessions_are m.others
+      (holding.over_holds digest h m.holds j y there m.others its_runs phase z w) (inr w.over) within
 
   -- some server has a seat for it
   pub its_state : SeatState
@@ -256,15 +262,32 @@ module _ {H : Type 0} (digest : H → List ℕ → List ℕ) (h : H) (a : CoreIn
       time = subst (λ (t : ℕ). In t a.moments) (sym started) (⊎_elim (λ (o : IsOver y.seat). absurd (open_runs digest h a j c m y there b o))
           (λ i. ⊎_elim (λ (n : y.seat.running ≡ None). absurd (let g : Some r ≡ None = sym e ∙ n in cc)) (λ t. t) i) its_timed)
 
-  pub finish_midway : (z : Seat H) → StepsAlone digest y.seat [] z → IsFinishing y.seat z → z.started ≡ y.seat.started → z.name ≡ y.seat.name
-      → (d : Core H) → d.hasher ≡ c.hasher → d.cells.items ≡ c.cells.items → d.sessions.items ≡ slice_set c.sessions.items j (seated y z) → IsMidway digest h d (at_end a) j × IsBelow d (at_end a)
-  finish_midway z steps finishes started same d hasher cells_are sessions_are = (
-    midway_then digest h (at_end a) j c d y (seated y z) c.cells.items there (hasher ∙ m.hasher) cells_are sessions_are (inactive_others digest h a j c m y there)
-        (holds_at_end digest h c.cells.items (slice_set c.sessions.items j (seated y z)) a (holding.quiet_holds digest h m.holds j y there (inactive_others digest h a j c m y there) (open_runs digest h a j c m y there b) z steps same
-        (time_then y.seat.running refl z finishes started).0))
-        (end_point y.seat.running z finishes).0 (time_then y.seat.running refl z finishes started).1,
-    subst (λ (cs : List KeptCell). pending_at (cells_seen cs) < a.size) (sym cells_are) m.below,
-  )
+  -- at its end it commits nothing
+  end_settled : (r : Option (Running H)) (z : Seat H) → FinishesBy r y.seat z → IsSettled z × (IsBetween z ⊎ IsLeaving z)
+  end_settled None z f = (between_settled z.point f.0, inl f.0)
+    where
+      between_settled : (p : ControlPoint) → IsBetweenAt p → IsSettledAt p z.running
+      between_settled Between b = tt
+      between_settled (Inside stage) b = absurd b
+      between_settled Leaving b = tt
+      between_settled Over b = tt
+  end_settled (Some r) z f = (leaving_settled z.point f, inr f)
+    where
+      leaving_settled : (p : ControlPoint) → IsLeavingAt p → IsSettledAt p z.running
+      leaving_settled Between l = tt
+      leaving_settled (Inside stage) l = absurd l
+      leaving_settled Leaving l = tt
+      leaving_settled Over l = tt
+
+  pub finish_goes : (z : Session H) → StepsAlone digest y.seat [] z.seat → IsFinishing y.seat z.seat → z.seat.started ≡ y.seat.started → z.seat.name ≡ y.seat.name
+      → texts_shown z ≡ texts_shown y → IsApart z.answer → z.last ≡ y.last → z.images ≡ y.images
+      → (d : Core H) → d.hasher ≡ c.hasher → d.cells.items ≡ c.cells.items → d.sessions.items ≡ slice_set c.sessions.items j z → GoesOn digest h d (at_end a) j
+  finish_goes z steps finishes started same shown apart last images d hasher cells_are sessions_are = let f = end_settled y.seat.running z.seat finishes in
+      goes_then digest h (at_end a) j c d y z c.cells.items there (hasher ∙ m.hasher) cells_are sessions_are (inactive_others digest h a j c m y there)
+      (holds_at_end digest h c.cells.items (slice_set c.sessions.items j z) a (holding.finish_holds digest h m.holds j y there (inactive_others digest h a j c m y there) (open_runs digest h a j c m y there b) z steps same
+      (time_then y.seat.running refl z.seat finishes started).0 shown apart last images f.1))
+      (end_point y.seat.running z.seat finishes).0 (time_then y.seat.running refl z.seat finishes started).1
+      (⊎_elim (λ (l : pending_at (cells_seen c.cells.items) < a.size). inl l) (λ g. inr (let w = m.within in omega (arith, w, g), f.0)) (cases_lt (pending_at (cells_seen c.cells.items)) a.size))
 
   pub finish_ends : (z : Seat H) → IsFinishing y.seat z → IsAtSessionEnd y.seat z
   finish_ends z f = (end_point y.seat.running z f).1

@@ -1,6 +1,6 @@
 //! The core of one thread.
 
-ghost use Rattle.std.specs.Prelude.{ℕ, ◌≡◌, ◌<◌, ◌≤◌, List, true, length, IfOk, OnErr, OnOk};
+ghost use Rattle.std.specs.Prelude.{ℕ, ◌≡◌, ◌≤◌, List, true, length, IfOk, OnErr, OnOk};
 ghost use mathlib.Core.Option.{some};
 ghost use lib.ListN.{get_elem?};
 ghost use Rattle.base_types.specs.Moment.{is_moment};
@@ -8,9 +8,9 @@ ghost use Rattle.base_types.specs.SessionName.{is_session_name};
 ghost use Rattle.sql_types.specs.declared.journal.TheConstants.{MAX_BLOCK};
 ghost use Rattle.law_sequential.specs.EndsLast.{running, ending};
 ghost use Rattle.server_engine.specs.CoreInput.{CoreInput, nothing_asked, with_session, with_line, at_end};
-ghost use Rattle.server_engine.specs.IsMidway.{IsAtSessionEnd, IsBelow, IsBetweenThen, IsInStatement, IsOverThen, IsUnchanged, IsWithin, MayAnswer, MayLeave, IsMidway, TookUp, ChangesSession};
+ghost use Rattle.server_engine.specs.IsMidway.{ChangesSession, GoesOn, IsAtSessionEnd, IsBetweenThen, IsOverThen, IsReady, IsRoomy, IsUnchanged, MayAnswer, MayLeave, MayStart, TookUp};
 ghost use Rattle.server_engine.specs.Parts.{HasLeft, IsDone};
-ghost use Rattle.server_engine.specs.Standing.{IsEnded, IsOpen, IsStanding, MayTakeStatement, OthersStay, Stands};
+ghost use Rattle.server_engine.specs.Standing.{IsEnded, IsOpen, IsSame, IsStanding, MayTakeStatement, OthersStay, Stands};
 
 use crate::cells::first_cells;
 use crate::parts::{Parts, write_last_lines};
@@ -21,8 +21,7 @@ use base_types::{Memory, Name, Text};
 use server_visits::{Cell, image_bytes_of};
 use std::alloc::Global;
 
-/// The cells of a database, and sessions that run over them one statement after another. After want of memory
-/// in `step` the session stays where it came to, and nothing more is to be asked of it.
+/// The cells of a database, and sessions that run over them one statement after another.
 #[derive(Drop)]
 pub struct Core<H: Hash32> {
     pub(crate) hasher: H,
@@ -64,12 +63,12 @@ impl<H: Hash32> Core<H> {
         Ok(number)
     }
 
-    /// Runs a statement of a session at this moment to its answer, which stands in the session's transcript
-    /// then. A block that is full is closed. It costs what the statement's visits do, and time in proportion
-    /// to the text and the reply.
+    /// Runs a statement of a session at this moment to its answer, which its transcript shows then. It costs what
+    /// the statement's visits do, and time in proportion to the text and to the reply before it. First it writes the
+    /// session's last answer down, and closes a block that is full.
     ///
-    /// For want of memory the statement isn't answered: the session stays inside it, with what its visits did
-    /// so far, as if they were made and the others were still to come. A block may be full then.
+    /// For want of memory for these two nothing is done: the statement isn't taken up, and the core stands as it
+    /// did. A statement that lacks memory itself is answered so.
     pub fn step(
         &mut self,
         alloc: Global,
@@ -83,45 +82,63 @@ impl<H: Hash32> Core<H> {
         ensures stands { (h : H) (a : CoreInput) (name : List ℕ) → Stands H.digest h self.old a
             → a.phase ≡ running → get_elem? a.names session ≡ some name
             → OnOk result (Stands H.digest h self.new (with_line name text now a)) }
-        ensures open { OnOk result (IsOpen self.new session) }
-        ensures stays { (h : H) (a : CoreInput) (name : List ℕ) → Stands H.digest h self.old a
-            → a.phase ≡ running → get_elem? a.names session ≡ some name
-            → OnErr result (IsMidway H.digest h self.new (with_line name text now a) session
-            × IsWithin self.new (with_line name text now a)) }
-        ensures inside { OnErr result (IsInStatement self.new session) }
-        ensures others { OnOk result (OthersStay session self.old self.new) }
-        ensures others_then { OnErr result (OthersStay session self.old self.new) }
+        ensures open { IsOpen self.new session }
+        ensures others { OthersStay session self.old self.new }
+        ensures err { OnErr result (IsSame self.old self.new) }
+        ensures stays { (h : H) (a : CoreInput) → Stands H.digest h self.old a
+            → OnErr result (Stands H.digest h self.new a) }
     {
+        self.write_answer(alloc, session)?;
+        self.close_full(alloc)?;
         self.start(alloc, session, text, now);
-        self.visit_needed(alloc, session)?;
-        self.answer(alloc, session)?;
+        self.visit_needed(alloc, session);
+        self.answer(alloc, session);
         Ok(())
+    }
+
+    // The last answer of a session becomes one of its entries. For want of memory nothing changes.
+    fn write_answer(&mut self, alloc: Global, session: usize) -> Result<(), Memory>
+        requires { IsOpen self.old session }
+        ensures same { IsSame self.old self.new }
+        ensures others { OthersStay session self.old self.new }
+        ensures open { IsOpen self.new session }
+        ensures ready { OnOk result (IsReady self.new session) }
+    {
+        self.sessions[session].write_answer(alloc)
+    }
+
+    // Closes a block, if one is full. For want of memory nothing changes.
+    fn close_full(&mut self, alloc: Global) -> Result<(), Memory>
+        requires { IsStanding H.digest self.old }
+        ensures roomy { (h : H) (a : CoreInput) → Stands H.digest h self.old a
+            → OnOk result (IsRoomy H.digest h self.new a) }
+        ensures sessions { self.new.sessions ≡ self.old.sessions }
+        ensures err { OnErr result (IsUnchanged self.old self.new) }
+    {
+        self.cells[LEDGER].close_full(alloc, self.hasher)
     }
 
     // A session takes up a statement.
     fn start(&mut self, alloc: Global, session: usize, text: Text, now: u64)
-        requires standing { MayTakeStatement H.digest self.old }
-        requires open { IsOpen self.old session }
+        requires standing { MayStart H.digest self.old }
+        requires ready { IsReady self.old session }
         requires moment { is_moment now ≡ true }
-        ensures midway { (h : H) (a : CoreInput) (name : List ℕ) → Stands H.digest h self.old a
+        ensures midway { (h : H) (a : CoreInput) (name : List ℕ) → IsRoomy H.digest h self.old a
             → a.phase ≡ running → get_elem? a.names session ≡ some name
-            → IsMidway H.digest h self.new (with_line name text now a) session
-            × IsBelow self.new (with_line name text now a) }
+            → GoesOn H.digest h self.new (with_line name text now a) session }
         ensures turned { ChangesSession TookUp session self.old self.new }
     {
         self.sessions[session].seat.start(alloc, text, now);
     }
 
-    // The answer of a session's statement is written down. For want of memory nothing changes.
-    fn answer(&mut self, alloc: Global, session: usize) -> Result<(), Memory>
+    // The statement of a session is answered.
+    fn answer(&mut self, alloc: Global, session: usize)
         requires { MayAnswer H.digest self.old session }
-        ensures stands { (h : H) (a : CoreInput) → IsMidway H.digest h self.old a session → IsBelow self.old a
-            → OnOk result (Stands H.digest h self.new a) }
-        ensures turned { OnOk result (ChangesSession IsBetweenThen session self.old self.new) }
-        ensures err { OnErr result (IsUnchanged self.old self.new) }
+        ensures stands { (h : H) (a : CoreInput) → GoesOn H.digest h self.old a session
+            → Stands H.digest h self.new a }
+        ensures turned { ChangesSession IsBetweenThen session self.old self.new }
     {
-        self.sessions[session].answer(alloc)?;
-        Ok(())
+        self.sessions[session].answer(alloc);
     }
 
     /// A session ends, and with it the transaction that it has open, of which its transcript tells then.
@@ -134,8 +151,9 @@ impl<H: Hash32> Core<H> {
         ensures ended { IsEnded self.new session }
         ensures others { OthersStay session self.old self.new }
     {
+        let alloc = *self.cells.allocator();
         self.finish(session);
-        self.visit_to_end(session);
+        self.visit_needed(alloc, session);
         self.leave(session);
     }
 
@@ -144,27 +162,39 @@ impl<H: Hash32> Core<H> {
         requires standing { IsStanding H.digest self.old }
         requires open { IsOpen self.old session }
         ensures midway { (h : H) (a : CoreInput) → Stands H.digest h self.old a
-            → IsMidway H.digest h self.new (at_end a) session × IsBelow self.new (at_end a) }
+            → GoesOn H.digest h self.new (at_end a) session }
         ensures turned { ChangesSession IsAtSessionEnd session self.old self.new }
     {
-        self.sessions[session].seat.finish();
+        self.sessions[session].finish();
     }
 
     // A session is over.
     fn leave(&mut self, session: usize)
         requires { MayLeave H.digest self.old session }
-        ensures stands { (h : H) (a : CoreInput) → IsMidway H.digest h self.old a session → IsBelow self.old a
+        ensures stands { (h : H) (a : CoreInput) → GoesOn H.digest h self.old a session
             → a.phase ≡ ending → Stands H.digest h self.new a }
         ensures turned { ChangesSession IsOverThen session self.old self.new }
     {
         self.sessions[session].leave();
     }
 
-    /// What it leaves, once all its sessions are over, with the image of its journal, and with the last line of
-    /// each session among its entries. For want of memory all that it had is gone.
+    /// What it leaves, once all its sessions are over, with the image of its journal, in which a block that was full
+    /// is closed, and with all that each session has shown among its entries. For want of memory all that it had is
+    /// gone.
     pub fn into_parts(self, alloc: Global) -> Result<Parts<H>, Memory>
         requires { IsDone H.digest self }
         ensures { (h : H) (a : CoreInput) → Stands H.digest h self a
+            → IfOk result (HasLeft (H.digest h) a) }
+    {
+        let mut core = self;
+        core.close_full(alloc)?;
+        core.come_apart(alloc)
+    }
+
+    // What it leaves where no block is full.
+    fn come_apart(self, alloc: Global) -> Result<Parts<H>, Memory>
+        requires { IsDone H.digest self }
+        ensures { (h : H) (a : CoreInput) → IsRoomy H.digest h self a
             → IfOk result (HasLeft (H.digest h) a) }
     {
         let Core {

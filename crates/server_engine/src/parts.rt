@@ -21,7 +21,7 @@ pub struct Parts<H: Hash32> {
     pub sessions: Vec<Session<H>>,
 }
 
-/// The last line of each of these becomes one of its entries.
+/// All that each of these has shown becomes entries.
 pub(crate) fn write_last_lines<H: Hash32>(
     alloc: Global,
     sessions: &mut Vec<Session<H>>,

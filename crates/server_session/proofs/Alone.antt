@@ -22,7 +22,7 @@ use Rattle.spec_protocol.specs.Seats.{OpenTransaction, SessionStatus, inside, an
 use Rattle.spec_protocol.specs.Seats as law
 use Rattle.spec_protocol.specs.Server.{Server}
 use Rattle.server_session.specs.ControlPoints.{IsBetween, IsBetweenAt, IsBegun, IsBegunAt}
-use Rattle.server_session.specs.Sits.{Sits, Runs, HasScript, HasScriptCapacity, said_at, line_of, IsControlPoint, IsRead, IsAnswered, place_seen, left_of}
+use Rattle.server_session.specs.Sits.{Sits, Runs, HasScript, HasScriptAt, HasScriptCapacity, said_at, line_of, IsControlPoint, IsRead, IsAnswered, place_seen, left_of}
 use Rattle.server_session.specs.Steps.{Steps, StepsAlone, Starts, Begins, line_with}
 use Rattle.server_session.specs.SessionOutput.{IsPlain, Adds}
 use Rattle.server_session.specs.declared.running.Running.{Running}
@@ -38,6 +38,10 @@ use Rattle.server_session.specs.declared.stage.Stage.TheVariants.{Begun, Assigni
 -- the seat with this moment, text, statement, transaction and point
 abbrev pub then_seat : {H : Type 0} → Seat H → ℕ → Text → Option Stmt → Option (Running H) → ControlPoint → Seat H
 then_seat y now text stmt r p = record { hasher = y.hasher; name = y.name; started = now; images = y.images; text = text; stmt = stmt; running = r; point = p }
+
+-- it stands elsewhere
+abbrev pub then_point : {H : Type 0} → Seat H → ControlPoint → Seat H
+then_point y p = then_seat y y.started y.text y.stmt y.running p
 
 pub between_is : (p : ControlPoint) → IsBetweenAt p → p ≡ Between
 between_is Between b = refl
@@ -74,6 +78,13 @@ script_same p q text again None o e k = tt
 script_same p q text again (Some r) None e k = tt
 script_same p q text again (Some r) (Some o) e k = λ free. k free ∙ ap (λ (ls : List Line). map line_of r.script.items ++ ls) e
 
+-- where it has it, it has it as far as it is asked for
+pub script_at : {H : Type 0} (p : ControlPoint) (text : Text) (r : Option (Running H)) (o : Option OpenTransaction) → HasScript p text r o → HasScriptAt p text r o
+script_at Between text r o k = k
+script_at (Inside stage) text r o k = k
+script_at Leaving text r o k = tt
+script_at Over text r o k = k
+
 pub no_room : {H : Type 0} (r : Option (Running H)) → HasScriptCapacity (Inside Begun) r
 no_room None = tt
 no_room (Some r) = λ b. absurd b
@@ -85,14 +96,14 @@ module _ {H : Type 0} (digest : H → List ℕ → List ℕ) (h : H) (y : Seat H
   pub holds_at_point : (p : ControlPoint) → y.point ≡ p → IsControlPoint p y.stmt w.x.open_one y.images
   holds_at_point p e = subst (λ (q : ControlPoint). IsControlPoint q y.stmt w.x.open_one y.images) e w.stands
 
-  pub scripted : (p : ControlPoint) → y.point ≡ p → HasScript p y.text y.running w.x.open_one
-  scripted p e = subst (λ (q : ControlPoint). HasScript q y.text y.running w.x.open_one) e w.script
+  pub scripted : (p : ControlPoint) → y.point ≡ p → HasScriptAt p y.text y.running w.x.open_one
+  scripted p e = subst (λ (q : ControlPoint). HasScriptAt q y.text y.running w.x.open_one) e w.script
 
-  pub sits_then : (t : SeatState) (x : Session) (now : ℕ) (text : Text) (st : Option Stmt) (r : Option (Running H)) (p : ControlPoint)
+  pub sits_so : (t : SeatState) (x : Session) (now : ℕ) (text : Text) (st : Option Stmt) (r : Option (Running H)) (p : ControlPoint)
       → t.role ≡ session x → x.transcript.session ≡ w.x.transcript.session → x.images ≡ w.x.images → is_moment now ≡ true
-      → x.place ≡ place_seen p text (left_of r) → IsRead st text → Runs digest h r x.open_one → HasScript p text r x.open_one → HasScriptCapacity p r
+      → x.place ≡ place_seen p text (left_of r) → IsRead st text → Runs digest h r x.open_one → HasScriptAt p text r x.open_one → HasScriptCapacity p r
       → IsControlPoint p st x.open_one y.images → Sits digest h (then_seat y now text st r p) t
-  sits_then t x now text st r p role name images moment place reads runs script room stands = record {
+  sits_so t x now text st r p role name images moment place reads runs script room stands = record {
     x = x;
     role = role;
     hasher = w.hasher;
@@ -108,6 +119,13 @@ module _ {H : Type 0} (digest : H → List ℕ → List ℕ) (h : H) (y : Seat H
     room = room;
     stands = stands;
   }
+
+  pub sits_then : (t : SeatState) (x : Session) (now : ℕ) (text : Text) (st : Option Stmt) (r : Option (Running H)) (p : ControlPoint)
+      → t.role ≡ session x → x.transcript.session ≡ w.x.transcript.session → x.images ≡ w.x.images → is_moment now ≡ true
+      → x.place ≡ place_seen p text (left_of r) → IsRead st text → Runs digest h r x.open_one → HasScript p text r x.open_one → HasScriptCapacity p r
+      → IsControlPoint p st x.open_one y.images → Sits digest h (then_seat y now text st r p) t
+  sits_then t x now text st r p role name images moment place reads runs script room stands =
+      sits_so t x now text st r p role name images moment place reads runs (script_at p text r x.open_one script) room stands
 
 -- ---- what steps add
 

@@ -18,6 +18,7 @@ use Rattle.spec_history.specs.EndSeen.{end_seen, line_seen}
 use Rattle.server_session.specs.IsEnd.{IsEnd}
 use Rattle.server_session.specs.Needs.{answer_need, end_need, point_need, need_of, cell_or_done}
 use Rattle.server_session.specs.ControlPoints.{IsBetween, IsBetweenAt, IsLeavingAt}
+use Rattle.server_session.specs.LastAnswers.{HasSameBesideScript, IsSameButScript}
 use Rattle.server_session.specs.Rest.{said_pair, HasScriptRoom, RestOpen, RestBy, IsRest, MayEndSession, MayEndSessionAt, FinishesBy}
 use Rattle.server_session.specs.Sits.{Sits, IsRunning, Runs, HasScript, HasScriptCapacity, IsAnswered, line_of, said_line}
 use Rattle.server_session.specs.Steps.{Steps, StepsAlone, Answers, IsAnsweredBy, Ends, EndsSession, entries_at, entries_by, end_of, last_entries}
@@ -32,7 +33,7 @@ use Rattle.server_session.specs.declared.stage.Answering.{Answering}
 use Rattle.server_session.specs.declared.stage.ControlPoint.{ControlPoint}
 use Rattle.server_session.specs.declared.stage.ControlPoint.TheVariants.{Between, Inside, Leaving, Over}
 use Rattle.server_session.specs.declared.stage.Stage.TheVariants.{Answering as Answered}
-use Rattle.server_session.proofs.Alone.{then_seat, between_is, placed, holds_at_point, scripted, sits_then, script_same, adds_at, adds_none, one_step, each_both}
+use Rattle.server_session.proofs.Alone.{then_seat, between_is, placed, holds_at_point, scripted, sits_so, sits_then, adds_at, adds_none, one_step, each_both}
 
 -- ---- what was released
 
@@ -89,33 +90,47 @@ leaving_room : {H : Type 0} (r : Option (Running H)) → HasScriptCapacity Leavi
 leaving_room None = tt
 leaving_room (Some r) = tt
 
-pub finishes : {H : Type 0} (digest : H → List ℕ → List ℕ) (y : Seat H) → IsBetween y
-    → StepsAlone digest y [] (then_seat y y.started y.text y.stmt y.running (end_point (is_some y.running)))
-finishes {H} digest y rest v h s serves w = by y.running w.x.open_one refl refl
+-- so its context, cells and end are the same where all but its script is
+runs_beside : {H : Type 0} (digest : H → List ℕ → List ℕ) (h : H) (r q : Running H) (o : OpenTransaction) → HasSameBesideScript r q → IsRunning digest h r o → IsRunning digest h q o
+runs_beside digest h r q o same run = record {
+  context = subst (λ c. Represents digest h c o) (sym same.context) run.context;
+  explicit = same.explicit ∙ run.explicit;
+  id = run.id;
+  end = subst (λ (u : Option EndLine). IsEnd o.id u o.end) (sym same.end) run.end;
+  visited = run.visited ∙ ap (λ (u : VisitedCells). reverse o.released ++ u.left) (sym same.visited);
+  cells = run.cells;
+  unreleased = run.unreleased;
+}
+
+pub finishes : {H : Type 0} (digest : H → List ℕ → List ℕ) (y : Seat H) (q : Option (Running H)) → IsBetween y → IsSameButScript y.running q
+    → StepsAlone digest y [] (then_seat y y.started y.text y.stmt q (end_point (is_some y.running)))
+finishes {H} digest y q rest same v h s serves w = by y.running q w.x.open_one refl refl refl same
   where
     b : y.point ≡ Between
     b = between_is y.point rest
 
-    by : (r : Option (Running H)) (o : Option OpenTransaction) → y.running ≡ r → w.x.open_one ≡ o
-        → Steps digest h v s [] (then_seat y y.started y.text y.stmt y.running (end_point (is_some r)))
-    by None o e f = record {
+    by : (r u : Option (Running H)) (o : Option OpenTransaction) → y.running ≡ r → q ≡ u → w.x.open_one ≡ o → IsSameButScript r u
+        → Steps digest h v s [] (then_seat y y.started y.text y.stmt q (end_point (is_some r)))
+    by None (Some p) o e d f k = absurd k
+    by (Some r) None o e d f k = absurd k
+    by None None o e d f k = record {
       t = s;
       steps = none;
       lines = refl;
       plain = tt;
-      sits = sits_then digest h y s w s w.x y.started y.text y.stmt y.running Between w.role refl refl w.moment (placed digest h y s w Between b) w.reads w.runs
-          (scripted digest h y s w Between b) (rest_room y.running) (holds_at_point digest h y s w Between b);
+      sits = subst (λ (z : Option (Running H)). Sits digest h (then_seat y y.started y.text y.stmt z Between) s) (e ∙ sym d)
+          (sits_so digest h y s w s w.x y.started y.text y.stmt y.running Between w.role refl refl w.moment (placed digest h y s w Between b) w.reads w.runs
+          (scripted digest h y s w Between b) (rest_room y.running) (holds_at_point digest h y s w Between b));
       adds = adds_none s w.x w.role;
     }
-    by (Some r) None e f = absurd (subst₂ (Runs digest h) e f w.runs)
-    by (Some r) (Some o) e f = let g : GoesOn (Some o) = subst GoesOn f (holds_at_point digest h y s w Between b) in
+    by (Some r) (Some p) None e d f k = absurd (subst₂ (Runs digest h) e f w.runs)
+    by (Some r) (Some p) (Some o) e d f k = let g : GoesOn (Some o) = subst GoesOn f (holds_at_point digest h y s w Between b) in
         let x : Session = at_place (Some o) leaving w.x in
-        one_step digest h v s (sits s x) (then_seat y y.started y.text y.stmt y.running Leaving)
+        one_step digest h v s (sits s x) (then_seat y y.started y.text y.stmt q Leaving)
         (leaves w.x o (record { role = w.role; here = placed digest h y s w Between b }) f g.0 g.1) refl tt
-        (sits_then digest h y s w (sits s x) x y.started y.text y.stmt y.running Leaving refl refl refl w.moment refl w.reads
-        (subst (Runs digest h y.running) f w.runs)
-        (script_same Between Leaving y.text y.text y.running (Some o) refl (subst (HasScript Between y.text y.running) f (scripted digest h y s w Between b)))
-        (leaving_room y.running) g.1)
+        (sits_so digest h y s w (sits s x) x y.started y.text y.stmt q Leaving refl refl refl w.moment refl w.reads
+        (subst (λ (z : Option (Running H)). Runs digest h z (Some o)) (sym d) (runs_beside digest h r p o k (subst₂ (Runs digest h) e f w.runs)))
+        tt (leaving_room q) g.1)
         (adds_at s w.x (Some o) leaving w.role)
 
 -- ---- the session's end
@@ -301,9 +316,10 @@ pub ends_statement : {H : Type 0} (digest : H → List ℕ → List ℕ) (y : Se
 ends_statement {H} digest y a left q b done rest v h s serves w =
     answered_by digest y a left q b (ap (λ (p : ControlPoint). point_need p y.running) (sym b) ∙ done) (rest (may_push digest h y s w a b)) v h s serves w
 
-pub finishing : {H : Type 0} (r : Option (Running H)) (y z : Seat H) → z.point ≡ end_point (is_some r) → z.running ≡ r → FinishesBy r y z
-finishing None y z e same = (subst IsBetweenAt (sym e) tt, same)
-finishing (Some r) y z e same = subst IsLeavingAt (sym e) tt
+pub finishing : {H : Type 0} (r q : Option (Running H)) (y z : Seat H) → z.point ≡ end_point (is_some r) → z.running ≡ q → IsSameButScript r q → FinishesBy r y z
+finishing None None y z e is same = (subst IsBetweenAt (sym e) tt, is)
+finishing None (Some q) y z e is same = absurd same
+finishing (Some r) q y z e is same = subst IsLeavingAt (sym e) tt
 
 -- ---- what stays of a transaction
 

@@ -1,6 +1,8 @@
 pub mod Alone
 pub mod Course
 pub mod Ending
+pub mod Keeping
+pub mod LastAnswers
 pub mod Reversed
 pub mod Savepoints
 pub mod Sitting

@@ -3,6 +3,7 @@ pub mod ControlPoints
 pub mod Course
 pub mod IsEnd
 pub mod KeptCell
+pub mod LastAnswers
 pub mod Needs
 pub mod Rest
 pub mod SessionOutput

@@ -70,6 +70,11 @@ HasScript point text (Some r) (Some o) = o.end ≡ unfixed
     → o.script ≡ map line_of r.script.items ++ said_at point text
 HasScript point text _ _ = Unit {0}
 
+-- at the session's end its script isn't asked for any more
+abbrev pub HasScriptAt : {H : Type 0} → ControlPoint → Text → Option (Running H) → Option OpenTransaction → Type 0
+HasScriptAt Leaving text r o = Unit {0}
+HasScriptAt point text r o = HasScript point text r o
+
 -- the statement belongs to the script, or may come to
 abbrev pub BelongsToScript : {H : Type 0} → Stage → Running H → Type 0
 BelongsToScript Begun r = ⊥
@@ -207,6 +212,6 @@ pub record Sits {H : Type 0} (digest : H → List ℕ → List ℕ) (h : H) (y :
   pub place : x.place ≡ place_seen y.point y.text (left_of y.running)
   pub reads : IsRead y.stmt y.text
   pub runs : Runs digest h y.running x.open_one
-  pub script : HasScript y.point y.text y.running x.open_one
+  pub script : HasScriptAt y.point y.text y.running x.open_one
   pub room : HasScriptCapacity y.point y.running
   pub stands : IsControlPoint y.point y.stmt x.open_one y.images

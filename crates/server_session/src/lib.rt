@@ -1,9 +1,12 @@
 //! Seats, which are sessions as their threads have them, and what they do alone between visits of cells.
 #![tactic(auto)]
 
+mod answer;
 mod going_on;
+mod lacking;
 mod need;
 mod needing;
+mod placing;
 mod rest;
 mod running;
 mod seat;
@@ -13,10 +16,12 @@ mod stage;
 mod starting;
 mod visited;
 
+pub use answer::{Answer, Answered, LastAnswer};
 pub use need::NextVisit;
 pub use needing::{CATALOG, LEDGER, cell_of, not_catalog};
+pub use placing::put_point;
 pub use running::Running;
-pub use seat::{Answer, Seat};
+pub use seat::Seat;
 pub use served_cell::ServedCell;
 pub use sql_types::EndLine;
 pub use stage::{Answering, ControlPoint, Stage};

@@ -1,21 +1,23 @@
 //! A seat: a session between its statements, or inside one.
 
-ghost use Rattle.std.specs.Prelude.{◌≡◌, ◌∷◌, [], true, if◌then◌else◌};
+ghost use Rattle.std.specs.Prelude.{◌≡◌, [], true, if◌then◌else◌};
 ghost use Rattle.base_types.specs.SessionName.{is_session_name};
-ghost use Rattle.spec_history.specs.Transcripts.{statement};
 ghost use Rattle.spec_protocol.specs.Seats.{idle, SeatState};
 ghost use Rattle.spec_protocol.specs.Server.{Server};
 ghost use Rattle.spec_history.specs.EndSeen.{line_seen};
 ghost use Rattle.server_session.specs.Needs.{need_of};
-ghost use Rattle.server_session.specs.ControlPoints.{IsAnswering, IsBetween, IsOver};
+ghost use Rattle.server_session.specs.ControlPoints.{IsBetween, IsOver};
 ghost use Rattle.server_session.specs.Rest.{IsFinishing, MayEndSession};
-ghost use Rattle.server_session.specs.Steps.{entries_at, end_of as end_in, Begins, EndsSession, StepsAlone};
+ghost use Rattle.server_session.specs.LastAnswers.{entries_said, last_said};
+ghost use Rattle.server_session.specs.Steps.{end_of as end_in, Begins, EndsSession, StepsAlone};
 ghost use Rattle.server_session.specs.declared.stage.ControlPoint.TheVariants.{Between, Leaving};
 
+use crate::answer::take_said;
 use crate::need::NextVisit;
 use crate::needing::{leaving_need, stage_need};
+use crate::placing::put_point;
 use crate::running::Running;
-use crate::stage::{ControlPoint, Stage};
+use crate::stage::ControlPoint;
 use base_merkle::Hash32;
 use base_types::{Name, Text};
 use sql_types::{EndLine, Reply, Stmt};
@@ -34,14 +36,6 @@ pub struct Seat<H: Hash32> {
     pub stmt: Option<Stmt>,
     pub running: Option<Running<H>>,
     pub point: ControlPoint,
-}
-
-/// What a statement is answered.
-pub struct Answer<'a> {
-    pub text: &'a Text,
-    pub reply: &'a Reply,
-    /// The line of the transaction that ends with it.
-    pub end: Option<EndLine>,
 }
 
 impl<H: Hash32> Seat<H> {
@@ -77,31 +71,18 @@ impl<H: Hash32> Seat<H> {
         }
     }
 
-    /// What the statement is answered, once its seat needs nothing more.
-    pub fn answer(&self) -> Answer<'_>
-        requires { IsAnswering self.now }
-        ensures { entries_at self.now
-            ≡ statement result.text.now result.reply.now (line_seen result.end) ∷ [] }
-    {
-        let ControlPoint::Inside(Stage::Answering(answering)) = &self.point else {
-            unreachable!()
-        };
-        Answer {
-            text: &self.text,
-            reply: &answering.reply,
-            end: end_of(&self.running),
-        }
-    }
-
-    /// The session comes to its end: where a transaction is open, cells are still to be visited.
-    pub fn finish(&mut self)
+    /// The session comes to its end: where a transaction is open, cells are still to be visited. The last
+    /// statement in the script of that transaction comes back, with its reply. Takes no memory.
+    pub fn finish(&mut self) -> Option<(Text, Reply)>
         requires { IsBetween self.old }
         ensures steps { StepsAlone H.digest self.old [] self.new }
         ensures end { IsFinishing self.old self.new }
+        ensures said { entries_said result ≡ last_said self.old.running }
         ensures started { self.new.started ≡ self.old.started }
         ensures name { self.new.name ≡ self.old.name }
     {
-        self.point = end_point(self.running.is_some());
+        put_point(&mut self.point, end_point(self.running.is_some()));
+        take_said(&mut self.running)
     }
 
     /// The line of the transaction that the session's end ended.
@@ -118,13 +99,15 @@ impl<H: Hash32> Seat<H> {
         ensures over { IsOver self.new }
         ensures name { self.new.name ≡ self.old.name }
     {
-        self.running = None;
-        self.point = ControlPoint::Over;
+        drop(self.running.take());
+        put_point(&mut self.point, ControlPoint::Over);
     }
 
     /// Lets the seat go. A crate that drops one has to prove how each value that it may hold is dropped, so those
     /// above call this.
-    pub fn let_go(self) {}
+    pub fn let_go(self) {
+        drop(self);
+    }
 }
 
 // Where a session stands that comes to its end; with true, its transaction is open.

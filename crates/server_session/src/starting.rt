@@ -9,6 +9,7 @@ ghost use Rattle.server_session.specs.ControlPoints.{IsBegun, IsBetween, IsUnder
 ghost use Rattle.server_session.specs.Steps.{Starts, StepsAlone};
 
 use crate::going_on::{make_room, refusal_of, statement_in, take_course};
+use crate::placing::{put_point, put_statement};
 use crate::seat::Seat;
 use crate::stage::{Answering, ControlPoint, Stage};
 use base_merkle::Hash32;
@@ -45,8 +46,8 @@ impl<H: Hash32> Seat<H> {
     {
         self.started = now;
         self.text = text;
-        self.stmt = None;
-        self.point = ControlPoint::Inside(Stage::Begun);
+        put_statement(&mut self.stmt, None);
+        put_point(&mut self.point, ControlPoint::Inside(Stage::Begun));
     }
 
     fn set_out(&mut self, alloc: Global)
@@ -75,7 +76,7 @@ impl<H: Hash32> Seat<H> {
     {
         make_room(&mut self.running)?;
         let stmt = statement_in(alloc, self.text.as_str())?;
-        self.stmt = stmt;
+        put_statement(&mut self.stmt, stmt);
         Ok(())
     }
 
@@ -105,11 +106,14 @@ impl<H: Hash32> Seat<H> {
         ensures name { self.new.name ≡ self.old.name }
         ensures text { self.new.text ≡ self.old.text }
     {
-        self.point = ControlPoint::Inside(Stage::Answering(Answering {
-            reply: Reply::Refused(refusal),
-            said: self.running.is_some(),
-            def: None,
-        }));
+        put_point(
+            &mut self.point,
+            ControlPoint::Inside(Stage::Answering(Answering {
+                reply: Reply::Refused(refusal),
+                said: self.running.is_some(),
+                def: None,
+            })),
+        );
     }
 
     // Runs a statement that isn't refused so.
@@ -125,7 +129,10 @@ impl<H: Hash32> Seat<H> {
         let Some(stmt) = &self.stmt else {
             unreachable!()
         };
-        self.point = ControlPoint::Inside(take_course(stmt, &mut self.running));
+        put_point(
+            &mut self.point,
+            ControlPoint::Inside(take_course(stmt, &mut self.running)),
+        );
     }
 
     // Refuses a statement with NoMemory of which nothing is done.
@@ -137,10 +144,13 @@ impl<H: Hash32> Seat<H> {
         ensures name { self.new.name ≡ self.old.name }
         ensures text { self.new.text ≡ self.old.text }
     {
-        self.point = ControlPoint::Inside(Stage::Answering(Answering {
-            reply: Reply::Refused(Refusal::NoMemory),
-            said: false,
-            def: None,
-        }));
+        put_point(
+            &mut self.point,
+            ControlPoint::Inside(Stage::Answering(Answering {
+                reply: Reply::Refused(Refusal::NoMemory),
+                said: false,
+                def: None,
+            })),
+        );
     }
 }

@@ -20,6 +20,10 @@ pub on_ok : {T E P Q : Type 0} (r : Result T E) → (P → Q) → OnOk r P → O
 on_ok (Ok v) f p = f p
 on_ok (Err e) f p = tt
 
+pub when_ok : {T E P : Type 0} (r : Result T E) → P → OnOk r P
+when_ok (Ok v) p = p
+when_ok (Err e) p = tt
+
 -- ---- what was asked
 
 abbrev one_line : Statement → InputLine

@@ -14,6 +14,7 @@ use format_lines::Line;
 use server_engine::{Parts, Session};
 use server_result::{RunOutcome, add_images};
 use std::alloc::Global;
+use std::mem;
 
 /// The texts of the entries of all sessions, in the order of the lines.
 fn transcript_of<H: Hash32>(
@@ -38,7 +39,10 @@ fn kept_by<H: Hash32>(alloc: Global, session: Session<H>) -> Items<(u64, Blob)>
     ensures { result ≡ session.images }
 {
     let mut session = session;
-    std::mem::replace(&mut session.images, Items::new(alloc))
+    let images = mem::replace(&mut session.images, Items::new(alloc));
+    // `drop` lets each type go by a function of its own, which is proved once
+    drop(session);
+    images
 }
 
 /// The images that the sessions kept, each once.

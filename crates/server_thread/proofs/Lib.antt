@@ -1,4 +1,5 @@
 mod Going
+mod Moments
 mod Over
 mod Ready
 mod Seating

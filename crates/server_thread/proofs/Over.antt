@@ -1,5 +1,5 @@
 -- A session is over, and its transcript is written behind those that its seat has.
-use Rattle.std.proofs.Common.{◌≡◌, ℕ, List, [], ◌∷◌, ◌++◌, Option, Some, None, append-nil, length, map, take, refl, sym, ap, ap₂, subst, ◌∙◌}
+use Rattle.std.proofs.Common.{◌≡◌, ℕ, List, [], ◌∷◌, ◌++◌, Option, Some, None, append-nil, length, map, take, refl, sym, ap, ap₂, subst, subst₂, ◌∙◌}
 use Rattle.std.specs.Borrow.{Bor}
 use Rattle.spec_history.specs.Lists.{Text, Each}
 use Rattle.spec_history.specs.Transcripts.{Entry, EndLine, statements}
@@ -7,11 +7,11 @@ use Rattle.spec_syntax.specs.Text.{statement_of}
 use Rattle.format_transcript.specs.TranscriptText.{entry_text}
 use Rattle.spec_protocol.specs.Serves.{Serves}
 use Rattle.spec_protocol.specs.Alone.{more}
-use Rattle.spec_protocol.specs.Seats.{KeptImage, Session, SeatState, Written}
+use Rattle.spec_protocol.specs.Seats.{Session, SeatState, Written}
 use Rattle.spec_protocol.specs.Server.{Server}
 use Rattle.server_result.specs.Moments.{IsMoment}
 use Rattle.server_session.specs.Rest.{MayEndSession, MayEndSessionAt}
-use Rattle.server_session.specs.Steps.{Ends, end_of, images_kept, last_entries}
+use Rattle.server_session.specs.Steps.{Ends, end_of, last_entries}
 use Rattle.server_session.specs.declared.running.Running.{Running}
 use Rattle.server_session.specs.declared.stage.ControlPoint.{ControlPoint}
 use Rattle.server_session.specs.declared.stage.ControlPoint.TheVariants.{Between, Inside, Leaving, Over}
@@ -19,9 +19,11 @@ use Rattle.server_engine.specs.Written.{LeavesSession, texts_shown}
 use Rattle.server_engine.specs.declared.session.Session as core
 use Rattle.server_engine.proofs.AnonymousActs.{one_session}
 use Rattle.server_thread.specs.Seated.{known_by, says_in, texts_in, under_way, HasSameKnowledge, IsAhead, IsSeated}
-use Rattle.server_thread.specs.Wrote.{HasLeft, HasWritten, IsWritten, left_of}
+use Rattle.server_thread.specs.Wrote.{HasLeft, HasWritten, IsWritten, left_of, texts_taken}
 use Rattle.server_thread.specs.declared.worker.Job.{Job}
+use Rattle.server_thread.specs.declared.worker.Worker.{Worker}
 use Rattle.server_engine.specs.declared.session.SessionEnd.{SessionEnd}
+use Rattle.server_engine.proofs.Holding.{left_shown}
 use Rattle.server_thread.proofs.Going.{all_answered}
 use Rattle.server_thread.proofs.Seating.{at, statements_more, texts_more}
 
@@ -43,9 +45,17 @@ taken_all ts n e = ap (λ (k : ℕ). take k (texts_in ts)) e ∙ whole ts
     whole [] = refl
     whole (u ∷ us) = ap (λ (rest : List Text). u.now ∷ rest) (whole us)
 
-module _ {H C : Type 0} (digest : H → List ℕ → List ℕ) (says : C → ℕ → Type 0) (job : Job H C) (v : Server) (serves : Serves (digest job.hasher) statement_of v) (y z : core.Session H) (n : ℕ) (image : Option KeptImage) (stored : image ≡ None) (s : SeatState)
-    (ahead : IsAhead digest says v (at job y n image) s) (ends : MayEndSession y.seat) (all : n ≡ length job.statements.now) (left : LeavesSession digest y z) where
-  abbrev now : IsSeated digest says (known_by s) s.written (at job y n image) ahead.t
+-- as many statements were taken up as the job has
+pub all_taken : {H C : Type 0} (z : Worker H C) (j : Job H C) → z.job ≡ j → z.taken ≡ length j.statements.now → texts_taken z ≡ texts_in j.statements.now
+all_taken {H} {C} z j same all = ap (λ (k : Job H C). take z.taken (texts_in k.statements.now)) same ∙ taken_all j.statements.now z.taken all
+
+-- the same were taken up
+pub same_taken : {H C : Type 0} (y z : Worker H C) → y.job ≡ z.job → y.taken ≡ z.taken → texts_taken y ≡ texts_taken z
+same_taken {H} {C} y z same taken = ap₂ (λ (k : Job H C) (n : ℕ). take n (texts_in k.statements.now)) same taken
+
+module _ {H C : Type 0} (digest : H → List ℕ → List ℕ) (says : C → ℕ → Type 0) (job : Job H C) (v : Server) (serves : Serves (digest job.hasher) statement_of v) (y z : core.Session H) (n : ℕ) (s : SeatState)
+    (ahead : IsAhead digest says v (at job y n) s) (ends : MayEndSession y.seat) (left : LeavesSession digest y z) where
+  abbrev now : IsSeated digest says (known_by s) s.written (at job y n) ahead.t
   now = ahead.seated
 
   abbrev its_end : Ends v ahead.t y.seat
@@ -60,25 +70,24 @@ module _ {H C : Type 0} (digest : H → List ℕ → List ℕ) (says : C → ℕ
   entries_are : its_end.w.transcript.entries ≡ now.sits.x.transcript.entries ++ last
   entries_are = its_end.entries ∙ ap (λ (x : Session). x.transcript.entries ++ last) was
 
-  texts_are : statements its_end.w.transcript.entries ≡ texts_in job.statements.now
+  texts_are : statements its_end.w.transcript.entries ≡ take n (texts_in job.statements.now)
   texts_are = ap statements entries_are ∙ statements_more now.sits.x.transcript.entries last ∙ ap (λ (ts : List Text). statements now.sits.x.transcript.entries ++ ts) (no_statement (end_of y.seat.running))
-      ∙ append-nil (statements now.sits.x.transcript.entries) ∙ all_answered digest says job v serves y n image s ahead (none_at_end y.seat.point y.seat.running y.seat.text ends) ∙ taken_all job.statements.now n all
+      ∙ append-nil (statements now.sits.x.transcript.entries) ∙ all_answered digest says job v serves y n s ahead (none_at_end y.seat.point y.seat.running y.seat.text ends)
 
   shown : texts_shown z ≡ map (entry_text job.name.now) its_end.w.transcript.entries
-  shown = ap₂ (λ (texts more : List Text). texts ++ more) left.entries
-      (ap₂ (λ (name : Text) (end : Option EndLine). map (entry_text name) (last_entries end)) (left.name ∙ now.name) left.last) ∙ ap (λ (ts : List Text). ts ++ map (entry_text job.name.now) last) now.entries
+  shown = left_shown y z now.last left ∙ ap₂ (λ (texts : List Text) (name : Text). texts ++ map (entry_text name) last) now.entries now.name
       ∙ sym (texts_more (entry_text job.name.now) now.sits.x.transcript.entries last) ∙ ap (map (entry_text job.name.now)) (sym entries_are)
 
-  is_written : IsWritten (says_in says job) job.name.now (texts_in job.statements.now) (left_of (at job z n image)) its_end.w
+  is_written : IsWritten (says_in says job) job.name.now (take n (texts_in job.statements.now)) (left_of (at job z n)) its_end.w
   is_written = record {
     session = its_end.session ∙ ap (λ (x : Session). x.transcript.session) was ∙ now.sits.name ∙ now.name;
     texts = texts_are;
     entries = shown;
-    images = left.images ∙ sym (append-nil y.images) ∙ ap (λ (i : Option KeptImage). y.images ++ images_kept i) (sym stored) ∙ sym now.images ∙ sym (its_end.images ∙ ap (λ (x : Session). x.images) was);
+    images = left.images ∙ sym now.images ∙ sym (its_end.images ∙ ap (λ (x : Session). x.images) was);
     moments = subst (Each (IsMoment (says_in says job))) (sym (its_end.moments ∙ ap (λ (x : Session). x.moments) was)) now.moments;
   }
 
-  pub leaves_ahead : HasLeft says v (at job z n image) s
+  pub leaves_ahead : HasLeft says v (at job z n) s
   leaves_ahead = record {
     t = its_end.t;
     steps = more ahead.steps its_end.step;
@@ -91,11 +100,11 @@ module _ {H C : Type 0} (digest : H → List ℕ → List ℕ) (says : C → ℕ
     };
   }
 
--- what was written of a session is written of whoever has the same of it, for the same job, behind the same
-pub written_for : {H C : Type 0} (says : C → ℕ → Type 0) (i j : Job H C) (a b : SessionEnd) (s t : SeatState) (u : SeatState) → i ≡ j → HasSameKnowledge s t → b.entries ≡ a.entries → b.images ≡ a.images
-    → HasWritten (says_in says i) i.name.now (texts_in i.statements.now) a (known_by t) t.written u → HasWritten (says_in says j) j.name.now (texts_in j.statements.now) b (known_by s) s.written u
-written_for {H} {C} says i j a b s t u same knowledge entries images h =
-    subst (λ (k : Job H C). HasWritten (says_in says k) k.name.now (texts_in k.statements.now) b (known_by s) s.written u) same (record {
+-- what was written of a session is written of whoever has the same of it, for the same job and texts, behind the same
+pub written_for : {H C : Type 0} (says : C → ℕ → Type 0) (i j : Job H C) (ts us : List Text) (a b : SessionEnd) (s t u : SeatState) → i ≡ j → ts ≡ us → HasSameKnowledge s t → b.entries ≡ a.entries → b.images ≡ a.images
+    → HasWritten (says_in says i) i.name.now ts a (known_by t) t.written u → HasWritten (says_in says j) j.name.now us b (known_by s) s.written u
+written_for {H} {C} says i j ts us a b s t u same texts knowledge entries images h =
+    subst₂ (λ (k : Job H C) (ls : List Text). HasWritten (says_in says k) k.name.now ls b (known_by s) s.written u) same texts (record {
       w = h.w;
       role = h.role;
       wrote = h.wrote ∙ ap (λ (ws : List Written). ws ++ h.w ∷ []) knowledge.written;

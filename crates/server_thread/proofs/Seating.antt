@@ -1,5 +1,5 @@
 -- A session goes on, and stands as its thread has it.
-use Rattle.std.proofs.Common.{◌≡◌, ◌<◌, ◌+◌, ℕ, zero, suc, List, [], ◌∷◌, ◌++◌, Option, length, map, take, refl, sym, ap, subst, subst₂, ◌∙◌, arith}
+use Rattle.std.proofs.Common.{◌≡◌, ◌<◌, ◌+◌, ℕ, zero, suc, List, [], ◌∷◌, ◌++◌, Option, None, length, map, take, refl, sym, ap, subst, subst₂, ◌∙◌, ⊎_elim, arith}
 use Rattle.std.specs.Borrow.{Bor}
 use Rattle.std.specs.Prelude.{slice_index_or}
 use Rattle.spec_history.specs.Lists.{Text, Each}
@@ -10,14 +10,17 @@ use Rattle.spec_protocol.specs.Alone.{none}
 use Rattle.spec_protocol.specs.Server.{Server}
 use Rattle.spec_protocol.specs.Seats.{KeptImage, Role, Session, SeatState, Written}
 use Rattle.server_result.specs.Moments.{IsMoment}
-use Rattle.server_session.specs.ControlPoints.{IsBetweenAt, IsInsideAt, IsLeavingAt, IsSamePhase}
+use Rattle.server_session.specs.ControlPoints.{IsBetweenAt, IsLeavingAt, IsSamePhase}
 use Rattle.server_session.specs.Sits.{Sits}
-use Rattle.server_session.specs.Steps.{images_kept}
 use Rattle.server_session.specs.SessionOutput.{Adds}
 use Rattle.server_session.specs.declared.stage.ControlPoint.{ControlPoint}
 use Rattle.server_session.specs.declared.stage.ControlPoint.TheVariants.{Between, Inside, Leaving, Over}
+use Rattle.server_session.specs.declared.answer.LastAnswer.{LastAnswer}
+use Rattle.server_engine.specs.Standing.{AnswerMayLie, IsSameSession}
+use Rattle.server_engine.specs.Written.{texts_shown}
 use Rattle.server_engine.specs.declared.session.Session as core
 use Rattle.server_engine.proofs.AnonymousActs.{one_session}
+use Rattle.server_engine.proofs.Holding.{none_lies}
 use Rattle.server_thread.specs.Seated.{all_known, known_by, known_in, says_in, texts_in, under_way, IsTimed, IsSeated, IsAhead, HasSameKnowledge}
 use Rattle.server_thread.specs.declared.worker.Job.{Job}
 use Rattle.server_thread.specs.declared.worker.Worker.{Worker}
@@ -68,21 +71,15 @@ none_leaving Between text l = absurd l
 none_leaving (Inside stage) text l = absurd l
 none_leaving Over text l = absurd l
 
-pub one_inside : (p : ControlPoint) (text : Text) → IsInsideAt p → under_way p text ≡ text ∷ []
-one_inside (Inside stage) text i = refl
-one_inside Between text i = absurd i
-one_inside Leaving text i = absurd i
-one_inside Over text i = absurd i
-
 -- ---- the thread
 
 module _ {H C : Type 0} (job : Job H C) where
-  abbrev pub at : core.Session H → ℕ → Option KeptImage → Worker H C
-  at y n image = record { job = job; session = y; taken = n; image = image }
+  abbrev pub at : core.Session H → ℕ → Worker H C
+  at y n = record { job = job; session = y; taken = n }
 
 module _ {H C : Type 0} (digest : H → List ℕ → List ℕ) (says : C → ℕ → Type 0) (known : List Transcript) (written : List Written) (job : Job H C) where
   -- it went on from one state to another, and its transcript, its images and its moments gained this
-  module _ (y z : core.Session H) (n m : ℕ) (before after : Option KeptImage) (s t : SeatState) (w : IsSeated digest says known written (at job y n before) s) (sits : Sits digest job.hasher z.seat t)
+  module _ (y z : core.Session H) (n m : ℕ) (s t : SeatState) (w : IsSeated digest says known written (at job y n) s) (sits : Sits digest job.hasher z.seat t)
       (entries : List Entry) (kept : List KeptImage) (times : List ℕ) (adds : Adds s entries kept times t) where
     was : adds.x ≡ w.sits.x
     was = one_session s.role adds.x w.sits.x adds.before w.sits.role
@@ -100,14 +97,16 @@ module _ {H C : Type 0} (digest : H → List ℕ → List ℕ) (says : C → ℕ
     moments_are = ap (λ (x : Session). x.moments) becomes ∙ adds.moments ∙ ap (λ (x : Session). x.moments ++ times) was
 
     pub seated_on : z.seat.name ≡ y.seat.name → statements (w.sits.x.transcript.entries ++ entries) ++ under_way z.seat.point z.seat.text ≡ take m (texts_in job.statements.now)
-        → z.entries ≡ y.entries ++ map (entry_text job.name.now) entries → (y.images ++ images_kept before) ++ kept ≡ z.images ++ images_kept after
-        → Each (IsMoment (says_in says job)) times → IsTimed (says_in says job) z.seat → IsSeated digest says known written (at job z m after) t
-    seated_on name texts shown images at_times timed = record {
+        → texts_shown z ≡ texts_shown y ++ map (entry_text job.name.now) entries → AnswerMayLie z.seat.point z.answer z.seat.running → z.last ≡ None → y.images ++ kept ≡ z.images
+        → Each (IsMoment (says_in says job)) times → IsTimed (says_in says job) z.seat → IsSeated digest says known written (at job z m) t
+    seated_on name texts shown lies last images at_times timed = record {
       sits = sits;
       name = name ∙ w.name;
       texts = ap (λ (es : List Entry). statements es ++ under_way z.seat.point z.seat.text) entries_are ∙ texts;
       entries = shown ∙ ap (λ (ts : List Text). ts ++ map (entry_text job.name.now) entries) w.entries
           ∙ sym (texts_more (entry_text job.name.now) w.sits.x.transcript.entries entries) ∙ ap (map (entry_text job.name.now)) (sym entries_are);
+      answer = lies;
+      last = last;
       images = images_are ∙ ap (λ (is : List KeptImage). is ++ kept) w.images ∙ images;
       moments = subst (Each (IsMoment (says_in says job))) (sym moments_are) (each_append (IsMoment (says_in says job)) w.sits.x.moments times w.moments at_times);
       timed = timed;
@@ -115,14 +114,26 @@ module _ {H C : Type 0} (digest : H → List ℕ → List ℕ) (says : C → ℕ
       written = adds.written ∙ w.written;
     }
 
-  -- an image is put among those of the session
-  pub seated_stored : (y z : core.Session H) (n : ℕ) (before after : Option KeptImage) (t : SeatState) → IsSeated digest says known written (at job y n before) t
-      → z.seat ≡ y.seat → z.entries ≡ y.entries → z.last ≡ y.last → z.images ++ images_kept after ≡ y.images ++ images_kept before → IsSeated digest says known written (at job z n after) t
-  seated_stored y z n before after t w same entries last images = subst (λ (u : core.Session H). IsSeated digest says known written (at job u n after) t) moved
-      (record { sits = w.sits; name = w.name; texts = w.texts; entries = w.entries; images = w.images ∙ sym images; moments = w.moments; timed = w.timed; earlier = w.earlier; written = w.written })
+  -- its last answer becomes one of its entries
+  pub same_seated : (y z : core.Session H) (n : ℕ) (t : SeatState) → IsSeated digest says known written (at job y n) t → IsSameSession y z → IsSeated digest says known written (at job z n) t
+  same_seated y z n t w same = subst (λ (u : core.Session H). IsSeated digest says known written (at job u n) t) moved (record {
+    sits = w.sits;
+    name = w.name;
+    texts = w.texts;
+    entries = ap texts_shown moved ∙ same.shown ∙ w.entries;
+    answer = ⊎_elim
+        (λ (e : z.answer ≡ y.answer). subst (λ (last : Option LastAnswer). AnswerMayLie y.seat.point last y.seat.running) (sym e) w.answer)
+        (λ e. none_lies y.seat.point z.answer y.seat.running e) same.answer;
+    last = same.last ∙ w.last;
+    images = w.images ∙ sym same.images;
+    moments = w.moments;
+    timed = w.timed;
+    earlier = w.earlier;
+    written = w.written;
+  })
     where
-      moved : record { seat = y.seat; entries = y.entries; last = y.last; images = z.images } ≡ z
-      moved = λ i. record { seat = sym same i; entries = sym entries i; last = sym last i; images = z.images }
+      moved : record { seat = y.seat; entries = z.entries; answer = z.answer; last = z.last; images = z.images } ≡ z
+      moved = λ i. record { seat = sym same.seat i; entries = z.entries; answer = z.answer; last = z.last; images = z.images }
 
 -- ---- what the board knows
 
@@ -139,11 +150,10 @@ module _ {H C : Type 0} (digest : H → List ℕ → List ℕ) (says : C → ℕ
     seated = subst₂ (λ (known : List Transcript) (written : List Written). IsSeated digest says known written z t) (sym still_known.known) (sym still_known.written) w;
   }
 
--- an image is put among those of the session
-pub stored_ahead : {H C : Type 0} (digest : H → List ℕ → List ℕ) (says : C → ℕ → Type 0) (job : Job H C) (v : Server) (y z : core.Session H) (n : ℕ) (before after : Option KeptImage) (s : SeatState) → IsAhead digest says v (at job y n before) s
-    → z.seat ≡ y.seat → z.entries ≡ y.entries → z.last ≡ y.last → z.images ++ images_kept after ≡ y.images ++ images_kept before → IsAhead digest says v (at job z n after) s
-stored_ahead digest says job v y z n before after s ahead same entries last images = record {
+-- its last answer becomes one of its entries
+pub same_ahead : {H C : Type 0} (digest : H → List ℕ → List ℕ) (says : C → ℕ → Type 0) (job : Job H C) (v : Server) (y z : core.Session H) (n : ℕ) (s : SeatState) → IsAhead digest says v (at job y n) s → IsSameSession y z → IsAhead digest says v (at job z n) s
+same_ahead digest says job v y z n s ahead same = record {
   t = ahead.t;
   steps = ahead.steps;
-  seated = seated_stored digest says (known_by s) s.written job y z n before after ahead.t ahead.seated same entries last images;
+  seated = same_seated digest says (known_by s) s.written job y z n ahead.t ahead.seated same;
 }

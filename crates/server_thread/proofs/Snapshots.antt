@@ -1,10 +1,10 @@
 -- A visit of all cells at once is one that a seat may make on the board.
-use Rattle.std.proofs.Common.{◌≡◌, ◌<◌, ◌+◌, ℕ, zero, suc, List, [], ◌∷◌, ◌++◌, Option, None, append-nil, length, map, refl, sym, ap, ap₂, subst, subst₂, ◌∙◌, inl, inr, arith}
+use Rattle.std.proofs.Common.{◌≡◌, ◌<◌, ◌+◌, ℕ, zero, suc, List, [], ◌∷◌, Option, append-nil, length, map, refl, sym, ap, ap₂, subst, ◌∙◌, inl, inr, arith}
 use mathlib.Core.Option.{some, some-injective, some-ne-none}
 use lib.ListN.{get_elem?}
 use Rattle.base_board.specs.Outs as board
 use Rattle.std.specs.Prelude.{slice_index_or}
-use Rattle.spec_history.specs.Lists.{Text, In}
+use Rattle.spec_history.specs.Lists.{In}
 use Rattle.spec_syntax.specs.Text.{statement_of}
 use Rattle.spec_protocol.specs.Serves.{Serves}
 use Rattle.spec_protocol.specs.Cells.{Cell, cell_count}
@@ -15,17 +15,19 @@ use Rattle.server_board.specs.Laws.{outs_are_seen}
 use Rattle.server_board.specs.ServedDatabase.{ServedDatabase, MayVisitServed, StandsOn, outs_seen}
 use Rattle.server_session.specs.KeptCell.{KeptCell, Keeps}
 use Rattle.server_session.specs.Needs.{need_of}
-use Rattle.server_session.specs.ControlPoints.{KeepsStatement}
-use Rattle.server_session.specs.Steps.{AllOut, KeepsImage, VisitedAll, VisitsAll, image_in, images_kept, items_in, items_of}
+use Rattle.server_session.specs.Steps.{AllOut, VisitedAll, image_in, images_kept, items_in, items_of}
 use Rattle.server_session.specs.declared.need.NextVisit.TheVariants as need
-use Rattle.server_session.specs.declared.seat.Seat.{Seat}
+use Rattle.server_session.specs.declared.answer.LastAnswer.{LastAnswer}
+use Rattle.server_engine.specs.Standing.{AnswerMayLie}
+use Rattle.server_engine.specs.Written.{KeepsSessionImage, texts_shown}
 use Rattle.server_engine.specs.declared.session.Session as core
 use Rattle.server_thread.specs.Seated.{known_by, says_in, IsAhead, IsSeated}
 use Rattle.server_thread.specs.declared.worker.Job.{Job}
-use Rattle.server_engine.proofs.Holding.{seated}
+use Rattle.server_engine.proofs.Holding.{apart_lies, same_shown}
 use Rattle.server_thread.proofs.Seating.{at, seated_on}
 use Rattle.server_thread.proofs.StepsAhead.{may_behind}
-use Rattle.server_thread.proofs.Visiting.{all_not_done, among_all, keeps_there, needs_timed, same_texts}
+use Rattle.server_thread.proofs.Moments.{all_not_done, needs_timed}
+use Rattle.server_thread.proofs.Visiting.{among_all, keeps_there, same_texts}
 
 -- ---- all cells are out
 
@@ -69,43 +71,42 @@ module _ {C : Type 0} where
     }
 
 -- the items of the journal
-items_there : (cells : List KeptCell) (x : KeptCell) → 1 < length cells → x ≡ slice_index_or cells 1 x → length (items_of x.cell) ≡ items_in cells
+pub items_there : (cells : List KeptCell) (x : KeptCell) → 1 < length cells → x ≡ slice_index_or cells 1 x → length (items_of x.cell) ≡ items_in cells
 items_there [] x l e = absurd (omega (arith, l))
 items_there (c ∷ []) x l e = absurd (let f : 1 < 1 = l in omega (arith, f))
 items_there (c ∷ d ∷ cells) x l e = ap (λ (u : KeptCell). length (items_of u.cell)) e
 
--- what was kept is the image with their number
-pub kept_is : {H : Type 0} (digest : H → List ℕ → List ℕ) (y z : Seat H) (all cells : List KeptCell) (bytes : Option Text) (x : KeptCell) (items : ℕ) (kept : Option KeptImage) → all ≡ cells → 1 < length cells → x ≡ slice_index_or cells 1 x
-    → items ≡ length (items_of x.cell) → kept ≡ image_in items bytes → KeepsImage digest y all bytes z → VisitsAll digest y cells kept z
-kept_is digest y z all cells bytes x items kept same some_ledger there count image keeps = subst₂ (λ (cs : List KeptCell) (k : Option KeptImage). VisitsAll digest y cs k z) same
-    (ap (λ (n : ℕ). image_in n bytes) (ap items_in same ∙ sym (items_there cells x some_ledger there) ∙ sym count) ∙ sym image) keeps
-
 -- ---- an image
 
-module _ {H C : Type 0} (digest : H → List ℕ → List ℕ) (says : C → ℕ → Type 0) (d : ServedDatabase) (job : Job H C) (serves : Serves (digest job.hasher) statement_of d.server) (y : core.Session H) (n : ℕ) (image : Option KeptImage) (stored : image ≡ None) (s : SeatState)
-    (ahead : IsAhead digest says d.server (at job y n image) s) (cells : List KeptCell) (seats : List SeatState) (j : ℕ) (stands : StandsOn (λ (c : KeptCell). c.cell) Keeps d cells seats) (there : get_elem? seats j ≡ some s)
-    (needs : need_of y.seat ≡ need.All) (z : Seat H) (kept : Option KeptImage) (visits : VisitsAll digest y.seat cells kept z) (stays : KeepsStatement y.seat z) where
-  abbrev now : IsSeated digest says (known_by s) s.written (at job y n image) ahead.t
+module _ {H C : Type 0} (digest : H → List ℕ → List ℕ) (says : C → ℕ → Type 0) (d : ServedDatabase) (job : Job H C) (serves : Serves (digest job.hasher) statement_of d.server) (y : core.Session H) (n : ℕ) (s : SeatState)
+    (ahead : IsAhead digest says d.server (at job y n) s) (cells : List KeptCell) (seats : List SeatState) (j : ℕ) (stands : StandsOn (λ (c : KeptCell). c.cell) Keeps d cells seats) (there : get_elem? seats j ≡ some s)
+    (needs : need_of y.seat ≡ need.All) (z : core.Session H) (keeps : KeepsSessionImage digest cells y z) where
+  abbrev now : IsSeated digest says (known_by s) s.written (at job y n) ahead.t
   now = ahead.seated
 
-  abbrev visited : VisitedAll digest y.seat cells (among_all digest says d job serves y n image s ahead cells seats j stands there needs) kept z
-  visited = visits (among_all digest says d job serves y n image s ahead cells seats j stands there needs)
+  abbrev kept : Option KeptImage
+  kept = image_in (items_in cells) keeps.image
+
+  abbrev visited : VisitedAll digest y.seat cells (among_all digest says d job serves y n s ahead cells seats j stands there needs) kept z.seat
+  visited = keeps.keeps (among_all digest says d job serves y n s ahead cells seats j stands there needs)
 
   time : IsMoment (says_in says job) y.seat.started
   time = needs_timed (says_in says job) y.seat need.All needs all_not_done now.timed
 
-  image_seated : IsSeated digest says (known_by s) s.written (at job (seated y z) n kept) visited.t
-  image_seated = seated_on digest says (known_by s) s.written job y (seated y z) n n image kept ahead.t visited.t now visited.sits [] (images_kept kept) [] visited.adds stays.name
-      (same_texts digest says d job serves y n image s ahead z stays) (sym (append-nil y.entries)) (ap (λ (i : Option KeptImage). (y.images ++ images_kept i) ++ images_kept kept) stored ∙ ap (λ (is : List KeptImage). is ++ images_kept kept) (append-nil y.images)) tt
-      (inr (subst (IsMoment (says_in says job)) (sym stays.started) time))
+  image_seated : IsSeated digest says (known_by s) s.written (at job z n) visited.t
+  image_seated = let lies = apart_lies y.seat.point z.seat.point y.answer y.seat.running z.seat.running keeps.stays.point now.answer in
+      seated_on digest says (known_by s) s.written job y z n n ahead.t visited.t now visited.sits [] (images_kept kept) [] visited.adds keeps.stays.name
+      (same_texts digest says d job serves y n s ahead z.seat keeps.stays) (same_shown y z lies.0 keeps.stays.name keeps.entries keeps.answer keeps.last ∙ sym (append-nil (texts_shown y)))
+      (subst (λ (last : Option LastAnswer). AnswerMayLie z.seat.point last z.seat.running) (sym keeps.answer) lies.1) (keeps.last ∙ now.last) (sym keeps.images) tt
+      (inr (subst (IsMoment (says_in says job)) (sym keeps.stays.started) time))
 
   -- the first cell that is given back makes the visit
   pub image_may : length cells ≡ cell_count → (out : List (ℕ × KeptCell)) → out ≡ board.all_out 0 cells [] → (i : ℕ) (c : KeptCell) (rest : List (ℕ × KeptCell)) → out ≡ (i, c) ∷ rest → get_elem? cells i ≡ some c
-      → (t : SeatState) × MayVisitServed (λ (c : KeptCell). c.cell) Keeps d s out i c t × IsSeated digest says (known_by s) s.written (at job (seated y z) n kept) t
+      → (t : SeatState) × MayVisitServed (λ (c : KeptCell). c.cell) Keeps d s out i c t × IsSeated digest says (known_by s) s.written (at job z n) t
   image_may count out all i c rest first here = (
     visited.t,
     record {
-      kept = keeps_there digest says d job serves y n image s ahead cells seats j stands there i c here;
+      kept = keeps_there digest says d job serves y n s ahead cells seats j stands there i c here;
       may = may_behind d.server s ahead.t visited.t (outs_seen (λ (c : KeptCell). c.cell) out) i c.cell ahead.steps
           (subst (λ (o : List (ℕ × KeptCell)). AllowedVisit d.server ahead.t (outs_seen (λ (c : KeptCell). c.cell) o) i c.cell visited.t) (sym first)
           (visited.may i c.cell (outs_seen (λ (c : KeptCell). c.cell) rest) (subst (λ (o : List (ℕ × KeptCell)). AllOut (map (λ (c : KeptCell). c.cell) cells) (outs_seen (λ (c : KeptCell). c.cell) o)) (sym all ∙ first)

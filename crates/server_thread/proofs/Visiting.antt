@@ -1,5 +1,5 @@
 -- A visit of a session is one that its seat may make on the board, with the steps that the board doesn't know yet.
-use Rattle.std.proofs.Common.{◌≡◌, ◌<◌, ℕ, List, [], ◌∷◌, ◌++◌, Option, None, append-nil, map, slice_set, take, refl, sym, ap, subst, ◌∙◌, inr, ⊎_elim}
+use Rattle.std.proofs.Common.{◌≡◌, ◌<◌, ℕ, List, [], ◌∷◌, ◌++◌, append-nil, map, slice_set, take, refl, sym, ap, subst, ◌∙◌, inr}
 use mathlib.Core.Option.{some}
 use lib.ListN.{get_elem?}
 use Rattle.base_board.specs.Outs as board
@@ -10,7 +10,7 @@ use Rattle.spec_syntax.specs.Text.{statement_of}
 use Rattle.spec_protocol.specs.Serves.{Serves}
 use Rattle.spec_protocol.specs.Alone.{none}
 use Rattle.spec_protocol.specs.Cells.{cell_count}
-use Rattle.spec_protocol.specs.Seats.{KeptImage, SeatState}
+use Rattle.spec_protocol.specs.Seats.{SeatState}
 use Rattle.spec_protocol.specs.StandTogether.{StandTogether}
 use Rattle.spec_protocol.specs.Visits.{nothing}
 use Rattle.spec_protocol.proofs.Places.{set_here}
@@ -19,20 +19,19 @@ use Rattle.server_board.specs.Laws.{seen_at}
 use Rattle.server_board.specs.ServedDatabase.{ServedDatabase, MayVisitServed, StandsOn}
 use Rattle.server_board.proofs.Unchanged.{each_there}
 use Rattle.server_session.specs.KeptCell.{KeptCell, Keeps}
-use Rattle.server_session.specs.Needs.{need_of, point_need}
-use Rattle.server_session.specs.ControlPoints.{IsBetween, IsBetweenAt, KeepsStatement}
-use Rattle.server_session.specs.Steps.{Among, AmongAll, IsVisit, Visits, images_kept}
-use Rattle.server_session.specs.declared.need.NextVisit.{NextVisit}
+use Rattle.server_session.specs.Needs.{need_of}
+use Rattle.server_session.specs.ControlPoints.{KeepsStatement}
+use Rattle.server_session.specs.Steps.{Among, AmongAll, IsVisit, Visits}
 use Rattle.server_session.specs.declared.need.NextVisit.TheVariants as need
 use Rattle.server_session.specs.declared.seat.Seat.{Seat}
-use Rattle.server_session.specs.declared.stage.ControlPoint.{ControlPoint}
-use Rattle.server_session.specs.declared.stage.ControlPoint.TheVariants.{Between, Inside, Leaving, Over}
 use Rattle.server_engine.specs.declared.session.Session as core
-use Rattle.server_thread.specs.Seated.{known_by, says_in, texts_in, under_way, IsAhead, IsSeated, IsTimed}
-use Rattle.server_thread.specs.Wrote.{HasLeft, HasWritten, left_of}
+use Rattle.server_thread.specs.Seated.{known_by, says_in, texts_in, under_way, IsAhead, IsSeated}
+use Rattle.server_thread.specs.Wrote.{HasLeft, HasWritten, left_of, texts_taken}
 use Rattle.server_thread.specs.declared.worker.Job.{Job}
 use Rattle.server_thread.specs.declared.worker.Worker.{Worker}
-use Rattle.server_engine.proofs.Holding.{seated}
+use Rattle.server_engine.specs.Written.{texts_shown}
+use Rattle.server_engine.proofs.Holding.{apart_lies, same_shown, seated}
+use Rattle.server_thread.proofs.Moments.{cell_not_done, needs_timed}
 use Rattle.server_thread.proofs.Seating.{at, seated_on, stays_under_way}
 use Rattle.server_thread.proofs.StepsAhead.{may_behind, stand_ahead}
 use Rattle.server_engine.proofs.Within.{need_within}
@@ -45,29 +44,11 @@ one_out {C} out before i c e none_before = e ∙ ap (λ (l : List (ℕ × C)). (
 pub out_lies : {C : Type 0} (cells : List C) (out before : List (ℕ × C)) (i : ℕ) (c : C) → out ≡ (i, c) ∷ before → board.OutsAreIn cells out → get_elem? cells i ≡ some c
 out_lies cells out before i c e stand = (subst (board.OutsAreIn cells) e stand).0
 
--- ---- moments
-
-between_done : {H : Type 0} (y : Seat H) (p : ControlPoint) → IsBetweenAt p → point_need p y.running ≡ need.Done
-between_done y Between b = refl
-between_done y (Inside stage) b = absurd b
-between_done y Leaving b = absurd b
-between_done y Over b = absurd b
-
--- who needs something has a statement that was taken up at such a moment
-pub needs_timed : {H : Type 0} (says : ℕ → Type 0) (y : Seat H) (n : NextVisit) → need_of y ≡ n → (need.Done ≡ n → ⊥) → IsTimed says y → IsMoment says y.started
-needs_timed says y n needs ne timed = ⊎_elim (λ (b : IsBetween y × (y.running ≡ None)). absurd (ne (sym (between_done y y.point b.0) ∙ needs))) (λ m. m) timed
-
-cell_not_done : (i : ℕ) → need.Done ≡ need.Cell i → ⊥
-cell_not_done i e = cc
-
-pub all_not_done : need.Done ≡ need.All → ⊥
-all_not_done e = cc
-
 -- ---- the seat among the others
 
-module _ {H C : Type 0} (digest : H → List ℕ → List ℕ) (says : C → ℕ → Type 0) (d : ServedDatabase) (job : Job H C) (serves : Serves (digest job.hasher) statement_of d.server) (y : core.Session H) (n : ℕ) (image : Option KeptImage) (s : SeatState)
-    (ahead : IsAhead digest says d.server (at job y n image) s) where
-  abbrev now : IsSeated digest says (known_by s) s.written (at job y n image) ahead.t
+module _ {H C : Type 0} (digest : H → List ℕ → List ℕ) (says : C → ℕ → Type 0) (d : ServedDatabase) (job : Job H C) (serves : Serves (digest job.hasher) statement_of d.server) (y : core.Session H) (n : ℕ) (s : SeatState)
+    (ahead : IsAhead digest says d.server (at job y n) s) where
+  abbrev now : IsSeated digest says (known_by s) s.written (at job y n) ahead.t
   now = ahead.seated
 
   abbrev so_far : List Entry
@@ -131,9 +112,10 @@ module _ {H C : Type 0} (digest : H → List ℕ → List ℕ) (says : C → ℕ
       time : IsMoment (says_in says job) y.seat.started
       time = needs_timed (says_in says job) y.seat (need.Cell i) needs (cell_not_done i) now.timed
 
-      pub visit_seated : IsSeated digest says (known_by s) s.written (at job (seated y z) n image) visited.t
-      visit_seated = seated_on digest says (known_by s) s.written job y (seated y z) n n image image ahead.t visited.t now visited.sits [] [] visited.moments visited.adds stays.name (same_texts z stays)
-          (sym (append-nil y.entries)) (append-nil (y.images ++ images_kept image))
+      pub visit_seated : IsSeated digest says (known_by s) s.written (at job (seated y z) n) visited.t
+      visit_seated = let lies = apart_lies y.seat.point z.point y.answer y.seat.running z.running stays.point now.answer in
+          seated_on digest says (known_by s) s.written job y (seated y z) n n ahead.t visited.t now visited.sits [] [] visited.moments visited.adds stays.name (same_texts z stays)
+          (same_shown y (seated y z) lies.0 stays.name refl refl refl ∙ sym (append-nil (texts_shown y))) lies.1 now.last (append-nil y.images)
           (each_weaker (λ (m : ℕ). m ≡ y.seat.started) (IsMoment (says_in says job)) (λ m e. subst (IsMoment (says_in says job)) (sym e) time) visited.moments visited.at_start)
           (inr (subst (IsMoment (says_in says job)) (sym stays.started) time))
 
@@ -143,7 +125,7 @@ module _ {H C : Type 0} (digest : H → List ℕ → List ℕ) (says : C → ℕ
         may = may_behind d.server s ahead.t visited.t ((i, c.cell) ∷ []) i e.cell ahead.steps (visited.may []);
       }
 
-      pub visit_may : (out : List (ℕ × KeptCell)) → out ≡ (i, c) ∷ [] → (t : SeatState) × MayVisitServed (λ (c : KeptCell). c.cell) Keeps d s out i e t × IsSeated digest says (known_by s) s.written (at job (seated y z) n image) t
+      pub visit_may : (out : List (ℕ × KeptCell)) → out ≡ (i, c) ∷ [] → (t : SeatState) × MayVisitServed (λ (c : KeptCell). c.cell) Keeps d s out i e t × IsSeated digest says (known_by s) s.written (at job (seated y z) n) t
       visit_may out e_out = (visited.t, subst (λ (o : List (ℕ × KeptCell)). MayVisitServed (λ (c : KeptCell). c.cell) Keeps d s o i e visited.t) (sym e_out) may_visit, visit_seated)
 
 -- ---- the last visit
@@ -151,7 +133,7 @@ module _ {H C : Type 0} (digest : H → List ℕ → List ℕ) (says : C → ℕ
 -- a cell is given back as it was, and the board knows what the seat did since
 module _ {H C : Type 0} (says : C → ℕ → Type 0) (d : ServedDatabase) (z : Worker H C) (s : SeatState) (left : HasLeft says d.server z s) where
   pub settle_may : (i : ℕ) (c : KeptCell) → Keeps d.server.hash c → (out : List (ℕ × KeptCell)) → out ≡ (i, c) ∷ []
-      → (t : SeatState) × MayVisitServed (λ (c : KeptCell). c.cell) Keeps d s out i c t × HasWritten (says_in says z.job) z.job.name.now (texts_in z.job.statements.now) (left_of z) (known_by s) s.written t
+      → (t : SeatState) × MayVisitServed (λ (c : KeptCell). c.cell) Keeps d s out i c t × HasWritten (says_in says z.job) z.job.name.now (texts_taken z) (left_of z) (known_by s) s.written t
   settle_may i c keeps out e = (
     left.t,
     subst (λ (o : List (ℕ × KeptCell)). MayVisitServed (λ (c : KeptCell). c.cell) Keeps d s o i c left.t) (sym e) (record {

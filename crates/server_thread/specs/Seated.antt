@@ -9,10 +9,11 @@ use Rattle.spec_protocol.specs.Seats.{Role, idle, session, SeatState, Written}
 use Rattle.spec_protocol.specs.Server.{Server}
 use Rattle.server_session.specs.ControlPoints.{IsBetween}
 use Rattle.server_session.specs.Sits.{Sits}
-use Rattle.server_session.specs.Steps.{images_kept}
 use Rattle.server_session.specs.declared.seat.Seat.{Seat}
 use Rattle.server_session.specs.declared.stage.ControlPoint.{ControlPoint}
 use Rattle.server_session.specs.declared.stage.ControlPoint.TheVariants.{Inside}
+use Rattle.server_engine.specs.Standing.{AnswerMayLie}
+use Rattle.server_engine.specs.Written.{texts_shown}
 use Rattle.server_result.specs.Moments.{IsMoment, said_with}
 use Rattle.server_thread.specs.declared.worker.Job.{Job}
 use Rattle.server_thread.specs.declared.worker.Worker.{Worker}
@@ -70,9 +71,11 @@ pub record IsSeated {H C : Type 0} (digest : H → List ℕ → List ℕ) (says 
   pub name : z.session.seat.name ≡ z.job.name.now
   pub texts : statements sits.x.transcript.entries ++ under_way z.session.seat.point z.session.seat.text
       ≡ take z.taken (texts_in z.job.statements.now)
-  pub entries : z.session.entries ≡ map (entry_text z.job.name.now) sits.x.transcript.entries
-  -- an image that was kept just now may not be among the session's yet
-  pub images : sits.x.images ≡ z.session.images ++ images_kept z.image
+  pub entries : texts_shown z.session ≡ map (entry_text z.job.name.now) sits.x.transcript.entries
+  pub answer : AnswerMayLie z.session.seat.point z.session.answer z.session.seat.running
+  -- its last line comes with its end
+  pub last : z.session.last ≡ None
+  pub images : sits.x.images ≡ z.session.images
   pub moments : Each (IsMoment (says_in says z.job)) sits.x.moments
   pub timed : IsTimed (says_in says z.job) z.session.seat
   pub earlier : sits.x.earlier ≡ known

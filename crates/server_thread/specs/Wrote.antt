@@ -1,5 +1,5 @@
 -- What a session wrote that is over.
-use Rattle.std.specs.Prelude.{ℕ, ◌≡◌, ◌++◌, List, [], ◌∷◌, map}
+use Rattle.std.specs.Prelude.{ℕ, ◌≡◌, ◌++◌, List, [], ◌∷◌, map, take}
 use Rattle.spec_history.specs.Lists.{Text, Each}
 use Rattle.spec_history.specs.Transcripts.{Transcript, statements}
 use Rattle.format_transcript.specs.TranscriptText.{entry_text}
@@ -25,6 +25,10 @@ pub record IsWritten (says : ℕ → Type 0) (name : Text) (ran : List Text) (e 
 abbrev pub left_of : {H C : Type 0} → Worker H C → SessionEnd
 left_of z = record { entries = texts_shown z.session; images = z.session.images }
 
+-- the texts of the statements that were taken up
+abbrev pub texts_taken : {H C : Type 0} → Worker H C → List Text
+texts_taken z = take z.taken (texts_in z.job.statements.now)
+
 -- The session is over, and this seat wrote its transcript behind these. When it began, its seat knew of these
 -- sessions that they were over.
 pub record HasWritten (says : ℕ → Type 0) (name : Text) (texts : List Text) (e : SessionEnd)
@@ -40,5 +44,4 @@ pub record HasLeft {H C : Type 0} (says : C → ℕ → Type 0) (v : Server) (z 
     (s : SeatState) : Type 0 where
   pub t : SeatState
   pub steps : Alones v s t
-  pub wrote : HasWritten (says_in says z.job) z.job.name.now (texts_in z.job.statements.now) (left_of z)
-      (known_by s) s.written t
+  pub wrote : HasWritten (says_in says z.job) z.job.name.now (texts_taken z) (left_of z) (known_by s) s.written t

@@ -39,7 +39,8 @@ fn close_pending<K: Serving, H: Hash32, R: Wait>(
 }
 
 /// Visits the ledger's cell so many times, and closes a block at each visit where anything is pending. Behind
-/// each visit the gate is passed, under this number.
+/// each visit the gate is passed, under this number. It leaves the seat as it was, with its parts and with no cell out,
+/// also where there was no memory to close a block; so the seat may end.
 pub fn builder_job<K: Serving, H: Hash32, C, G: Gate, R: Wait>(
     run: &Run<'_, K, H, C, G, R>,
     number: u32,

@@ -2,8 +2,8 @@
 
 ghost use Rattle.base_board.specs.Boards.{seat_state};
 ghost use Rattle.server_thread.specs.AtBoard.{IsFree, IsFreed};
-ghost use Rattle.server_thread.specs.Seated.{known_by, says_in, texts_in};
-ghost use Rattle.server_thread.specs.Wrote.{HasLeft, HasWritten, left_of};
+ghost use Rattle.server_thread.specs.Seated.{known_by, says_in};
+ghost use Rattle.server_thread.specs.Wrote.{HasLeft, HasWritten, left_of, texts_taken};
 
 use crate::shared::{Cells, ThreadSeat};
 use crate::worker::Worker;
@@ -27,7 +27,7 @@ pub(crate) fn settle<'a, K: Serving, H: Hash32, C: Clock, R: Wait>(
     requires left { HasLeft C.says K.database.server worker.now (seat_state place.old) }
     ensures place { IsFreed place.old place.new }
     ensures wrote { HasWritten (says_in C.says worker.now.job) worker.now.job.name.now
-        (texts_in worker.now.job.statements.now) (left_of worker.now) (known_by (seat_state place.old))
+        (texts_taken worker.now) (left_of worker.now) (known_by (seat_state place.old))
         (seat_state place.old).written (seat_state place.new) }
 {
     let held = board.take(rt, place, LEDGER);

@@ -1,12 +1,11 @@
 //! The visits of a session: each takes one cell of the board, and gives it back.
 
-ghost use Rattle.std.specs.Prelude.{◌≡◌, ◌⊎◌, ◌<◌, IfOk, MatchBool, None, OnOk};
+ghost use Rattle.std.specs.Prelude.{◌≡◌, MatchBool};
 ghost use Rattle.base_board.specs.Boards.{seat_state};
 ghost use Rattle.server_engine.specs.IsMidway.{WentToEnd};
 ghost use Rattle.spec_syntax.specs.Text.{statement_of};
 ghost use Rattle.server_session.specs.Needs.{need_of};
-ghost use Rattle.server_session.specs.ControlPoints.{IsLeaving, KeepsStatement};
-ghost use Rattle.server_session.specs.Rest.{MayEndSession};
+ghost use Rattle.server_session.specs.ControlPoints.{KeepsStatement};
 ghost use Rattle.server_session.specs.declared.need.NextVisit.TheVariants as need;
 ghost use Rattle.spec_protocol.specs.Serves.{Serves};
 ghost use Rattle.server_thread.specs.AtBoard.{IsFree, IsFreed};
@@ -17,7 +16,6 @@ use crate::snapshot::visit_all;
 use crate::worker::Worker;
 use base_io::{Clock, Gate};
 use base_merkle::Hash32;
-use base_types::Memory;
 use server_board::{Serving, give_with};
 use server_engine::{Cell, visit};
 use server_session::NextVisit;
@@ -45,7 +43,6 @@ fn visit_cell<'a, K: Serving, H: Hash32, C: Clock, G: Gate, R: Wait>(
     ensures stays { KeepsStatement worker.old.session.seat worker.new.session.seat }
     ensures taken { worker.new.taken ≡ worker.old.taken }
     ensures job { worker.new.job ≡ worker.old.job }
-    ensures image { worker.new.image ≡ worker.old.image }
 {
     let mut held = board.take(rt, place, cell);
     visit(&mut worker.session.seat, alloc, &mut held.cell);
@@ -61,37 +58,34 @@ fn visit_next<'a, K: Serving, H: Hash32, C: Clock, G: Gate, R: Wait>(
     board: &Cells<K>,
     place: &mut ThreadSeat<K>,
     worker: &mut Worker<'a, H, C>,
-) -> Result<bool, Memory>
+) -> bool
     requires free { IsFree board.now place.old }
     requires serves { Serves (H.digest worker.old.job.hasher) statement_of K.database.server }
     requires ahead { IsAhead H.digest C.says K.database.server worker.old (seat_state place.old) }
-    requires image { worker.old.image ≡ None }
     ensures place { IsFreed place.old place.new }
-    ensures ahead { OnOk result
-        (IsAhead H.digest C.says K.database.server worker.new (seat_state place.new)) }
-    ensures known { OnOk result (HasSameKnowledge (seat_state place.old) (seat_state place.new)) }
-    ensures next { IfOk result (λ more. MatchBool more
+    ensures ahead { IsAhead H.digest C.says K.database.server worker.new (seat_state place.new) }
+    ensures known { HasSameKnowledge (seat_state place.old) (seat_state place.new) }
+    ensures next { MatchBool result
         (KeepsStatement worker.old.session.seat worker.new.session.seat)
-        ((worker.new ≡ worker.old) × (need_of worker.old.session.seat ≡ need.Done))) }
-    ensures taken { OnOk result (worker.new.taken ≡ worker.old.taken) }
-    ensures job { OnOk result (worker.new.job ≡ worker.old.job) }
-    ensures image { OnOk result (worker.new.image ≡ None) }
+        ((worker.new ≡ worker.old) × (need_of worker.old.session.seat ≡ need.Done)) }
+    ensures taken { worker.new.taken ≡ worker.old.taken }
+    ensures job { worker.new.job ≡ worker.old.job }
 {
     match worker.session.seat.need() {
         NextVisit::Cell(cell) => {
             visit_cell(rt, alloc, gate, board, place, worker, cell);
-            Ok(true)
+            true
         }
         NextVisit::All => {
-            visit_all(rt, alloc, board, place, worker)?;
-            Ok(true)
+            visit_all(rt, alloc, board, place, worker);
+            true
         }
-        NextVisit::Done => Ok(false),
+        NextVisit::Done => false,
     }
 }
 
-/// Makes all visits that the session needs at its end. They take no memory.
-pub(crate) fn visit_to_end<'a, K: Serving, H: Hash32, C: Clock, G: Gate, R: Wait>(
+/// Makes all visits that the session needs, in a statement or at its end. What lacks memory there is answered so.
+pub(crate) fn visit_needed<'a, K: Serving, H: Hash32, C: Clock, G: Gate, R: Wait>(
     rt: &R,
     alloc: Global,
     gate: &G,
@@ -102,49 +96,16 @@ pub(crate) fn visit_to_end<'a, K: Serving, H: Hash32, C: Clock, G: Gate, R: Wait
     requires free { IsFree board.now place.old }
     requires serves { Serves (H.digest worker.old.job.hasher) statement_of K.database.server }
     requires ahead { IsAhead H.digest C.says K.database.server worker.old (seat_state place.old) }
-    requires ending { MayEndSession worker.old.session.seat ⊎ IsLeaving worker.old.session.seat }
     ensures place { IsFreed place.old place.new }
     ensures ahead { IsAhead H.digest C.says K.database.server worker.new (seat_state place.new) }
     ensures known { HasSameKnowledge (seat_state place.old) (seat_state place.new) }
     ensures went { WentToEnd worker.old.session.seat worker.new.session.seat }
     ensures taken { worker.new.taken ≡ worker.old.taken }
     ensures job { worker.new.job ≡ worker.old.job }
-    ensures image { worker.new.image ≡ worker.old.image }
 {
     for _ in rt.forever() {
-        let NextVisit::Cell(cell) = worker.session.seat.need() else {
+        if !visit_next(rt, alloc, gate, board, place, worker) {
             return;
-        };
-        visit_cell(rt, alloc, gate, board, place, worker, cell);
-    }
-}
-
-/// Makes all visits that the session needs.
-pub(crate) fn visit_needed<'a, K: Serving, H: Hash32, C: Clock, G: Gate, R: Wait>(
-    rt: &R,
-    alloc: Global,
-    gate: &G,
-    board: &Cells<K>,
-    place: &mut ThreadSeat<K>,
-    worker: &mut Worker<'a, H, C>,
-) -> Result<(), Memory>
-    requires free { IsFree board.now place.old }
-    requires serves { Serves (H.digest worker.old.job.hasher) statement_of K.database.server }
-    requires ahead { IsAhead H.digest C.says K.database.server worker.old (seat_state place.old) }
-    requires image { worker.old.image ≡ None }
-    ensures place { IsFreed place.old place.new }
-    ensures ahead { OnOk result
-        (IsAhead H.digest C.says K.database.server worker.new (seat_state place.new)) }
-    ensures known { OnOk result (HasSameKnowledge (seat_state place.old) (seat_state place.new)) }
-    ensures went { OnOk result (WentToEnd worker.old.session.seat worker.new.session.seat) }
-    ensures taken { OnOk result (worker.new.taken ≡ worker.old.taken) }
-    ensures job { OnOk result (worker.new.job ≡ worker.old.job) }
-    ensures image { OnOk result (worker.new.image ≡ None) }
-{
-    for _ in rt.forever() {
-        if !visit_next(rt, alloc, gate, board, place, worker)? {
-            return Ok(());
         }
     }
-    Ok(())
 }

@@ -1,6 +1,6 @@
 //! A session with what it is to run, as its thread has it.
 
-ghost use Rattle.std.specs.Prelude.{◌≡◌, ◌+◌, ◌<◌, true, length, IfOk, None, OnOk};
+ghost use Rattle.std.specs.Prelude.{◌≡◌, ◌+◌, ◌<◌, true, length, IfOk, None, OnErr, OnOk};
 ghost use Rattle.base_types.specs.SessionName.{is_session_name};
 ghost use Rattle.spec_syntax.specs.Text.{statement_of};
 ghost use Rattle.server_session.specs.Needs.{need_of};
@@ -10,12 +10,13 @@ ghost use Rattle.server_session.specs.declared.need.NextVisit.TheVariants.{Done}
 ghost use Rattle.spec_protocol.specs.Serves.{Serves};
 ghost use Rattle.spec_protocol.specs.Seats.{SeatState};
 ghost use Rattle.spec_protocol.specs.Server.{Server};
+ghost use Rattle.server_engine.specs.Written.{IsApart};
 ghost use Rattle.server_thread.specs.Seated.{IsAhead, IsIdle};
 ghost use Rattle.server_thread.specs.Wrote.{HasLeft};
 
 use base_io::Clock;
 use base_merkle::Hash32;
-use base_types::{Blob, Memory, Name, Text};
+use base_types::{Memory, Name, Text};
 use server_engine::{Session, new_session};
 use server_result::moment;
 use std::alloc::Global;
@@ -39,8 +40,6 @@ pub(crate) struct Worker<'a, H: Hash32, C: Clock> {
     pub session: Session<H>,
     /// So many of its statements were taken up.
     pub taken: usize,
-    /// An image that isn't among those of the session yet.
-    pub image: Option<(u64, Blob)>,
 }
 
 /// A session begins. It takes memory for its name alone.
@@ -52,7 +51,7 @@ pub(crate) fn begin<'a, H: Hash32, C: Clock>(
     ensures ahead { IfOk result
         (λ z. (v : Server) (s : SeatState) → IsIdle s → IsAhead H.digest C.says v z s) }
     ensures between { IfOk result (λ z. IsBetween z.session.seat) }
-    ensures new { IfOk result (λ z. (z.job ≡ job.entry) × (z.taken ≡ 0) × (z.image ≡ None)) }
+    ensures new { IfOk result (λ z. (z.job ≡ job.entry) × (z.taken ≡ 0)) }
 {
     let name = Name::of_str(alloc, job.name)?;
     let session = new_session(alloc, job.hasher, name);
@@ -60,23 +59,25 @@ pub(crate) fn begin<'a, H: Hash32, C: Clock>(
         job,
         session,
         taken: 0,
-        image: None,
     })
 }
 
 impl<'a, H: Hash32, C: Clock> Worker<'a, H, C> {
-    /// Takes up the next statement, and goes on as far as it needs no cell.
+    /// Writes the session's last answer down, takes up the next statement, and goes on as far as it needs no cell.
+    /// For want of memory the statement isn't taken up, and the session stands where it did.
     pub(crate) fn start(&mut self, alloc: Global) -> Result<(), Memory>
         requires between { IsBetween self.old.session.seat }
         requires more { self.old.taken < length self.old.job.statements.now }
-        ensures ahead { OnOk result ((v : Server) (s : SeatState)
+        ensures ahead { (v : Server) (s : SeatState)
             → Serves (H.digest self.old.job.hasher) statement_of v
-            → IsAhead H.digest C.says v self.old s → IsAhead H.digest C.says v self.new s) }
+            → IsAhead H.digest C.says v self.old s → IsAhead H.digest C.says v self.new s }
         ensures under_way { OnOk result (IsUnderWay self.new.session.seat) }
         ensures taken { OnOk result (self.new.taken ≡ self.old.taken + 1) }
-        ensures job { OnOk result (self.new.job ≡ self.old.job) }
-        ensures image { OnOk result (self.new.image ≡ self.old.image) }
+        ensures between { OnErr result (IsBetween self.new.session.seat) }
+        ensures untaken { OnErr result (self.new.taken ≡ self.old.taken) }
+        ensures job { self.new.job ≡ self.old.job }
     {
+        self.session.write_answer(alloc)?;
         let text = Text::of_str(alloc, self.job.statements[self.taken])?;
         let now = moment(self.job.moment, self.job.clock);
         self.session.seat.start(alloc, text, now);
@@ -84,34 +85,19 @@ impl<'a, H: Hash32, C: Clock> Worker<'a, H, C> {
         Ok(())
     }
 
-    /// The answer of the statement is written down.
-    pub(crate) fn answer(&mut self, alloc: Global) -> Result<(), Memory>
+    /// The statement is answered. Takes no memory.
+    pub(crate) fn answer(&mut self, alloc: Global)
         requires answers { IsAnswering self.old.session.seat }
         requires done { need_of self.old.session.seat ≡ Done }
-        ensures ahead { OnOk result ((v : Server) (s : SeatState)
+        requires written { self.old.session.answer ≡ None }
+        ensures ahead { (v : Server) (s : SeatState)
             → Serves (H.digest self.old.job.hasher) statement_of v
-            → IsAhead H.digest C.says v self.old s → IsAhead H.digest C.says v self.new s) }
-        ensures between { OnOk result (IsBetween self.new.session.seat) }
-        ensures taken { OnOk result (self.new.taken ≡ self.old.taken) }
-        ensures job { OnOk result (self.new.job ≡ self.old.job) }
-        ensures image { OnOk result (self.new.image ≡ self.old.image) }
+            → IsAhead H.digest C.says v self.old s → IsAhead H.digest C.says v self.new s }
+        ensures between { IsBetween self.new.session.seat }
+        ensures taken { self.new.taken ≡ self.old.taken }
+        ensures job { self.new.job ≡ self.old.job }
     {
-        self.session.answer(alloc)
-    }
-
-    /// Puts an image that was kept just now among those of the session.
-    pub(crate) fn store_image(&mut self) -> Result<(), Memory>
-        ensures ahead { OnOk result ((v : Server) (s : SeatState)
-            → IsAhead H.digest C.says v self.old s → IsAhead H.digest C.says v self.new s) }
-        ensures seat { OnOk result (self.new.session.seat ≡ self.old.session.seat) }
-        ensures taken { OnOk result (self.new.taken ≡ self.old.taken) }
-        ensures job { OnOk result (self.new.job ≡ self.old.job) }
-        ensures image { OnOk result (self.new.image ≡ None) }
-    {
-        if let Some(image) = self.image.take() {
-            self.session.images.push(image)?;
-        }
-        Ok(())
+        self.session.answer(alloc);
     }
 
     /// The session comes to its end, behind its last statement.
@@ -123,19 +109,18 @@ impl<'a, H: Hash32, C: Clock> Worker<'a, H, C> {
         ensures finishing { IsFinishing self.old.session.seat self.new.session.seat }
         ensures taken { self.new.taken ≡ self.old.taken }
         ensures job { self.new.job ≡ self.old.job }
-        ensures image { self.new.image ≡ self.old.image }
     {
-        self.session.seat.finish();
+        self.session.finish();
     }
 
     /// The session is over. Takes no memory.
     pub(crate) fn leave(&mut self)
         requires ends { MayEndSession self.old.session.seat }
-        requires all { self.old.taken ≡ length self.old.job.statements.now }
-        requires image { self.old.image ≡ None }
+        requires apart { IsApart self.old.session.answer }
         ensures left { (v : Server) (s : SeatState)
             → Serves (H.digest self.old.job.hasher) statement_of v
             → IsAhead H.digest C.says v self.old s → HasLeft C.says v self.new s }
+        ensures taken { self.new.taken ≡ self.old.taken }
         ensures job { self.new.job ≡ self.old.job }
     {
         self.session.leave();

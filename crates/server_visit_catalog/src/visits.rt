@@ -13,7 +13,7 @@ use crate::catalog_create::{make_index, make_table};
 use crate::catalog_look::{look_for_change, look_for_select, stopped};
 use crate::catalog_release::leave_catalog;
 use base_merkle::Hash32;
-use server_session::{ControlPoint, Running, Seat, Stage};
+use server_session::{ControlPoint, Running, Seat, Stage, put_point};
 use sql_types::Stmt;
 use sql_value::Refusal;
 use std::alloc::Global;
@@ -75,7 +75,7 @@ fn look<H: Hash32>(seat: &mut Seat<H>, alloc: Global, catalog: &mut CatalogCell)
 fn set_stage<H: Hash32>(seat: &mut Seat<H>, stage: Stage)
     ensures { seat.new ≡ with_stage stage seat.old }
 {
-    seat.point = ControlPoint::Inside(stage);
+    put_point(&mut seat.point, ControlPoint::Inside(stage));
 }
 
 // A refused statement gives the catalog's lock back.

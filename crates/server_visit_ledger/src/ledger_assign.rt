@@ -11,10 +11,11 @@ ghost use Rattle.server_visit_ledger.specs.declared.ledger_work.LedgerWork.TheVa
 use crate::ledger_work::unsaid;
 use base_merkle::Hash32;
 use base_types::{Memory, Text, TxId, is_tx_id};
-use server_session::{ControlPoint, Running, Seat, Stage, TxCtx, VisitedCellList};
+use server_session::{ControlPoint, Running, Seat, Stage, TxCtx, VisitedCellList, put_point};
 use sql_types::Reply;
 use sql_value::Refusal;
 use std::alloc::Global;
+use std::mem;
 use store_ledger::LedgerCell;
 
 /// Draws an id for BEGIN, or else for a transaction of the statement's own. Without one, or without
@@ -40,10 +41,16 @@ fn go_on_with<H: Hash32>(seat: &mut Seat<H>, drawn: Option<Running<H>>, explicit
     match drawn {
         Some(running) => {
             let id = running.context.id();
-            seat.running = Some(running);
-            seat.point = ControlPoint::Inside(assigned_id_stage(explicit, id));
+            drop(mem::replace(&mut seat.running, Some(running)));
+            put_point(
+                &mut seat.point,
+                ControlPoint::Inside(assigned_id_stage(explicit, id)),
+            );
         }
-        None => seat.point = ControlPoint::Inside(unsaid(Reply::Refused(Refusal::NoMemory))),
+        None => put_point(
+            &mut seat.point,
+            ControlPoint::Inside(unsaid(Reply::Refused(Refusal::NoMemory))),
+        ),
     }
 }
 

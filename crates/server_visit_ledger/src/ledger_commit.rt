@@ -16,7 +16,7 @@ use crate::ledger_work::{unsaid, without_index};
 use base_merkle::Hash32;
 use base_types::{Items, Memory, Text};
 use format_reply::reply_text;
-use server_session::{ControlPoint, Running, Seat, Stage};
+use server_session::{ControlPoint, Running, Seat, Stage, put_point};
 use sql_types::{EndLine, Reply, Script};
 use sql_value::Refusal;
 use std::alloc::Global;
@@ -105,7 +105,7 @@ fn fix_commit<H: Hash32>(seat: &mut Seat<H>, place: u64)
 {
     commit_running(&mut seat.running, place);
     let point = mem::replace(&mut seat.point, ControlPoint::Over);
-    seat.point = committed_point(point);
+    put_point(&mut seat.point, committed_point(point));
 }
 
 // There is no memory for the commit: a transaction of the statement's own ends, after so many.
@@ -114,7 +114,7 @@ fn lack_commit<H: Hash32>(seat: &mut Seat<H>, after: u64)
 {
     end_own(&mut seat.running, after);
     let point = mem::replace(&mut seat.point, ControlPoint::Over);
-    seat.point = lacking_point(point);
+    put_point(&mut seat.point, lacking_point(point));
 }
 
 // ---- scripts
@@ -198,7 +198,10 @@ fn committed_stage(stage: Stage) -> Stage
     match stage {
         Stage::Committing => unsaid(Reply::NoOutput),
         Stage::Replied(reply) => unsaid(reply),
-        Stage::Made { def: _, indexed: _ } => unsaid(Reply::Made),
+        Stage::Made { def, indexed: _ } => {
+            drop(def);
+            unsaid(Reply::Made)
+        }
         stage => stage,
     }
 }
@@ -219,6 +222,9 @@ fn lacking_stage(stage: Stage) -> Stage
 {
     match stage {
         Stage::Made { def, indexed: _ } => without_index(def),
-        _ => unsaid(Reply::Refused(Refusal::NoMemory)),
+        stage => {
+            drop(stage);
+            unsaid(Reply::Refused(Refusal::NoMemory))
+        }
     }
 }

@@ -9,7 +9,7 @@ ghost use Rattle.server_visit_ledger.specs.declared.ledger_work.LedgerWork.TheVa
 
 use crate::ledger_work::{unsaid, without_index};
 use base_merkle::Hash32;
-use server_session::{ControlPoint, Running, Seat, Stage};
+use server_session::{ControlPoint, Running, Seat, Stage, put_point};
 use sql_types::{EndLine, Reply};
 use std::mem;
 use store_ledger::LedgerCell;
@@ -30,7 +30,7 @@ pub(crate) fn fix_end<H: Hash32>(seat: &mut Seat<H>, after: u64)
 {
     end_running(&mut seat.running, after);
     let point = mem::replace(&mut seat.point, ControlPoint::Over);
-    seat.point = ended_point(point);
+    put_point(&mut seat.point, ended_point(point));
 }
 
 fn end_running<H: Hash32>(running: &mut Option<Running<H>>, after: u64)

@@ -11,7 +11,7 @@ ghost use Rattle.server_session.specs.declared.stage.ControlPoint.TheVariants.{I
 
 use crate::ledger_work::unsaid;
 use base_merkle::Hash32;
-use server_session::{ControlPoint, Seat};
+use server_session::{ControlPoint, Seat, put_point};
 use sql_types::Reply;
 use sql_value::Refusal;
 use std::alloc::Global;
@@ -58,7 +58,7 @@ fn issue_digest<H: Hash32>(seat: &mut Seat<H>, alloc: Global, ledger: &mut Ledge
 fn answer_unsaid<H: Hash32>(seat: &mut Seat<H>, reply: Reply)
     ensures { seat.new ≡ moved seat.old seat.old.running (Inside (unsaid_at reply)) }
 {
-    seat.point = ControlPoint::Inside(unsaid(reply));
+    put_point(&mut seat.point, ControlPoint::Inside(unsaid(reply)));
 }
 
 fn digest_reply(issued: Result<IssuedDigest, DigestErr>) -> Reply

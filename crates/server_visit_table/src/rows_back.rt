@@ -8,7 +8,9 @@ ghost use Rattle.server_session.specs.Steps.{Among, ComesOn, Visits};
 ghost use Rattle.server_visit_table.specs.TableStages.{back_stage};
 
 use base_merkle::Hash32;
-use server_session::{Answering, ControlPoint, Seat, Stage, VisitedCellList, not_catalog};
+use server_session::{
+    Answering, ControlPoint, Seat, Stage, VisitedCellList, not_catalog, put_point,
+};
 use sql_types::Reply;
 use store_table::TableCell;
 
@@ -27,7 +29,8 @@ pub(crate) fn go_back<H: Hash32>(seat: &mut Seat<H>, rows: &mut TableCell)
         return;
     };
     rows.undo_to(running.context.id(), *seq);
-    seat.point = ControlPoint::Inside(stage_behind(&running.visited, *seq, *passed));
+    let stage = stage_behind(&running.visited, *seq, *passed);
+    put_point(&mut seat.point, ControlPoint::Inside(stage));
 }
 
 // Where the seat stands once it went back in one cell more than in so many.

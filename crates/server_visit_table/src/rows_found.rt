@@ -13,7 +13,7 @@ ghost use Rattle.sql_types.specs.declared.table.Part.{Part};
 
 use base_merkle::Hash32;
 use base_types::Items;
-use server_session::{Answering, ControlPoint, Running, Seat, Stage, TxCtx, cell_of};
+use server_session::{Answering, ControlPoint, Running, Seat, Stage, TxCtx, cell_of, put_point};
 use sql_locks::{query_requests, row_requests};
 use sql_parts::{KeyedTable, key_places};
 use sql_types::{Part, Reply, Row, RowStmt, Select, Stmt, TableDef};
@@ -38,7 +38,8 @@ pub(crate) fn run_in_table<H: Hash32>(seat: &mut Seat<H>, alloc: Global, rows: &
     let Some(running) = &mut seat.running else {
         return;
     };
-    seat.point = ControlPoint::Inside(run_found(running, alloc, rows, def, *part, *fresh, stmt));
+    let stage = run_found(running, alloc, rows, def, *part, *fresh, stmt);
+    put_point(&mut seat.point, ControlPoint::Inside(stage));
 }
 
 // Runs the statement, and says where its seat stands then.

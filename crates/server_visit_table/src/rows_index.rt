@@ -10,7 +10,7 @@ ghost use Rattle.store_table.specs.Calls.{IsTable, LacksLast};
 
 use base_merkle::Hash32;
 use base_types::Memory;
-use server_session::{ControlPoint, Running, Seat, Stage, cell_of};
+use server_session::{ControlPoint, Running, Seat, Stage, cell_of, put_point};
 use sql_types::TableDef;
 use std::alloc::Global;
 use store_table::TableCell;
@@ -33,7 +33,10 @@ pub(crate) fn add_index<H: Hash32>(seat: &mut Seat<H>, alloc: Global, rows: &mut
         return;
     };
     let added = add_last_index(running, alloc, rows, &def).is_ok();
-    seat.point = ControlPoint::Inside(stage_made(def, added));
+    put_point(
+        &mut seat.point,
+        ControlPoint::Inside(stage_made(def, added)),
+    );
 }
 
 // Adds the last index of the definition, if there is memory for it.

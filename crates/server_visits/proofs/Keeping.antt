@@ -1,6 +1,5 @@
 -- The visit of all cells, in which an image is kept or memory is wanting.
-use Rattle.std.proofs.Common.{◌≡◌, ◌<◌, ◌+◌, ℕ, Bool, true, false, List, [], ◌∷◌, ◌++◌, Option, Some, None, length, length-append, map, refl, sym, ap, ap₂, ◌∙◌, subst, subst₂, arith}
-use Rattle.std.specs.Prelude.{slice_get, MatchOption}
+use Rattle.std.proofs.Common.{◌≡◌, ◌<◌, ◌+◌, ℕ, false, List, [], ◌∷◌, ◌++◌, Option, Some, None, length, length-append, map, refl, sym, ap, ap₂, ◌∙◌, subst, subst₂, arith}
 use Rattle.std.proofs.lemmas.List.{append-nil}
 use mathlib.Core.Option as core
 use mathlib.Core.Option.{some}
@@ -11,81 +10,35 @@ use Rattle.sql_types.specs.declared.statement.Stmt.{Stmt}
 use Rattle.sql_types.specs.declared.statement.Stmt.TheVariants as stmt
 use Rattle.spec_model.specs.Journals.{tx_count}
 use Rattle.server_session.specs.Lists.{Text, Each, In}
-use Rattle.server_session.specs.Alone.{none, IsUnfixed}
+use Rattle.server_session.specs.Alone.{none}
 use Rattle.server_session.specs.Cells.{Cell, Ledger, LedgerCell, ledger_at}
 use Rattle.server_session.specs.AnonymousActs.{did, alones_acts}
 use Rattle.server_session.specs.Follows.{alones_lines}
 use Rattle.server_session.specs.ImageVisits.{KeepsImage}
 use Rattle.server_session.specs.Moves.{at_place, keeping, marking, sits}
-use Rattle.server_session.specs.Seats.{OpenTransaction, inside, answering, KeptImage, Session, SeatState}
+use Rattle.server_session.specs.Seats.{inside, answering, KeptImage, Session, SeatState}
 use Rattle.server_session.specs.Server.{journal_image}
 use Rattle.server_session.specs.Visits.{keep, nothing}
 use Rattle.law_protocol_steps.proofs.CellsOut.{out_lies}
 use Rattle.store_image.proofs.CellsShow.{same_bytes}
 use Rattle.server_visits.specs.Images.{AreImageBytes, CellsStand}
 use Rattle.server_session.specs.KeptCell.{KeptCell}
-use Rattle.server_session.specs.Needs.{point_need, stage_need, end_need, answer_need, back_need, cell_or_done, visits_left, point_visits}
+use Rattle.server_session.specs.Needs.{visits_left, point_visits}
 use Rattle.server_session.specs.ControlPoints.{IsBegunAt, KeepsStatement, IsSamePhase}
 use Rattle.server_session.specs.Sits.{Sits, Runs, HasScript, HasScriptCapacity, OfStmt}
 use Rattle.server_session.specs.Steps.{Steps, StepsAlone, AmongAll, AllOut, VisitedAll, VisitsAll, items_of, items_in, image_in}
 use Rattle.server_session.specs.SessionOutput.{IsPlainAnonymousAct, plainly}
-use Rattle.sql_types.specs.declared.end_line.EndLine.{EndLine}
-use Rattle.server_session.specs.declared.need.NextVisit.TheVariants as need
 use Rattle.server_session.specs.declared.running.Running.{Running}
 use Rattle.server_session.specs.declared.seat.Seat.{Seat}
 use Rattle.server_session.specs.declared.stage.Answering.{Answering}
 use Rattle.server_session.specs.declared.stage.ControlPoint.{ControlPoint}
-use Rattle.server_session.specs.declared.stage.ControlPoint.TheVariants.{Between, Inside, Leaving, Over}
-use Rattle.server_session.specs.declared.stage.Stage.{Stage}
-use Rattle.server_session.specs.declared.stage.Stage.TheVariants.{Begun, AssigningId, Committing, RollingBack, Issuing, Keeping, Looking, Found, Made, LacksIndex, GoingBack, Replied, GivingBack, Answering as Answered}
+use Rattle.server_session.specs.declared.stage.ControlPoint.TheVariants.{Inside}
+use Rattle.server_session.specs.declared.stage.Stage.TheVariants.{Keeping, Answering as Answered}
 use Rattle.server_session.proofs.Alone.{then_seat, holds_at_point, lacking}
-use Rattle.server_session.proofs.Sitting.{stmt_found, in_statement, lacks_so, plain_anonymous_acts}
-
--- ---- who needs all cells
-
-not_all_cell : (o : Option ℕ) → cell_or_done o ≡ need.All → ⊥
-not_all_cell None e = absurd cc
-not_all_cell (Some i) e = absurd cc
-
-not_all_end : (b : Bool) (end : Option EndLine) (left : List ℕ) → end_need b end left ≡ need.All → ⊥
-not_all_end true None left e = absurd cc
-not_all_end false None left e = absurd cc
-not_all_end true (Some line) left e = not_all_cell (slice_get left 0) e
-not_all_end false (Some line) left e = not_all_cell (slice_get left 0) e
-
-not_all_answer : {H : Type 0} (r : Option (Running H)) → answer_need r ≡ need.All → ⊥
-not_all_answer None e = absurd cc
-not_all_answer (Some r) e = not_all_end r.explicit r.end r.visited.left e
-
-keeping_stage : {H : Type 0} (stage : Stage) (r : Option (Running H)) → stage_need stage r ≡ need.All → Inside stage ≡ Inside Keeping
-keeping_stage Begun r e = absurd cc
-keeping_stage (AssigningId explicit) r e = absurd cc
-keeping_stage Committing r e = absurd cc
-keeping_stage RollingBack r e = absurd cc
-keeping_stage Issuing r e = absurd cc
-keeping_stage Keeping r e = refl
-keeping_stage Looking r e = absurd cc
-keeping_stage (Found def part fresh) r e = absurd cc
-keeping_stage (Made def true) r e = absurd cc
-keeping_stage (Made def false) r e = absurd cc
-keeping_stage (LacksIndex def) r e = absurd cc
-keeping_stage (GoingBack seq passed) r e = absurd (not_all_cell (back_need r passed) e)
-keeping_stage (Replied reply) r e = absurd cc
-keeping_stage (GivingBack refusal) r e = absurd cc
-keeping_stage (Answered a) r e = absurd (not_all_answer r e)
-
-keeping_point : {H : Type 0} (p : ControlPoint) (r : Option (Running H)) → point_need p r ≡ need.All → p ≡ Inside Keeping
-keeping_point Between r e = absurd cc
-keeping_point (Inside stage) r e = keeping_stage stage r e
-keeping_point Leaving None e = absurd cc
-keeping_point Leaving (Some r) e = absurd (not_all_end false r.end r.visited.left e)
-keeping_point Over r e = absurd cc
+use Rattle.server_session.proofs.Keeping.{keeping_point, lacks_alone, no_running}
+use Rattle.server_session.proofs.Sitting.{stmt_found, in_statement, plain_anonymous_acts}
 
 -- ---- its seat
-
-no_running : {H : Type 0} (digest : H → List ℕ → List ℕ) (h : H) (r : Option (Running H)) → Runs digest h r None → r ≡ None
-no_running digest h None k = refl
-no_running digest h (Some r) k = absurd k
 
 module _ {H : Type 0} (digest : H → List ℕ → List ℕ) (y : Seat H) (all : List KeptCell) (a : AmongAll digest y all) where
   pub at_keeping : y.point ≡ Inside Keeping
@@ -136,14 +89,10 @@ keeps_none {H} digest y z all alone a = let p : Steps digest a.h a.v a.s [] z = 
   adds = p.adds;
 }
 
-open_none : (q : Option OpenTransaction) → q ≡ None → IsUnfixed q
-open_none q e = subst IsUnfixed (sym e) tt
-
 pub lacks_image : {H : Type 0} (digest : H → List ℕ → List ℕ) (y : Seat H) (all : List KeptCell) → AmongAll digest y all
     → VisitsAll digest y all None (then_seat y y.started y.text y.stmt y.running (Inside (Answered lacking)))
 lacks_image digest y all a = keeps_none digest y (then_seat y y.started y.text y.stmt y.running (Inside (Answered lacking))) all
-    (lacks_so digest y Keeping (at_keeping digest y all a) refl refl
-    (λ h s w. open_none w.x.open_one ((holds_at_point digest h y s w (Inside Keeping) (at_keeping digest y all a)).0)))
+    (lacks_alone digest y a.needs)
 
 -- ---- an image is kept
 
@@ -160,11 +109,14 @@ items_are (b ∷ c ∷ cs) ledger e = ap (λ (q : core.Option Cell). length (fou
 same_cell : (c d : Cell) → some c ≡ some d → c ≡ d
 same_cell c d e = ap (elim [ core.none ↦ d | some k ↦ k ]) e
 
-abbrev unsaid : (n : ℕ) → Answering
+abbrev pub unsaid : (n : ℕ) → Answering
 unsaid n = record { reply = reply.Image n; said = false; def = None }
 
+abbrev pub image_seat_at : {H : Type 0} → Seat H → ControlPoint → Seat H
+image_seat_at y p = record { hasher = y.hasher; name = y.name; started = y.started; images = y.images + 1; text = y.text; stmt = y.stmt; running = y.running; point = p }
+
 abbrev pub image_seat : {H : Type 0} → Seat H → ℕ → Seat H
-image_seat y n = record { hasher = y.hasher; name = y.name; started = y.started; images = y.images + 1; text = y.text; stmt = y.stmt; running = y.running; point = Inside (Answered (unsaid n)) }
+image_seat y n = image_seat_at y (Inside (Answered (unsaid n)))
 
 no_script : {H : Type 0} (p : ControlPoint) (text : Text) (r : Option (Running H)) → HasScript p text r None
 no_script p text None = tt

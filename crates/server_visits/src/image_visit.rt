@@ -10,7 +10,7 @@ use crate::all_cells::image_bytes_of;
 use crate::cell::Cell;
 use base_merkle::Hash32;
 use base_types::{Blob, Memory};
-use server_session::{Answering, ControlPoint, LEDGER, Seat, Stage};
+use server_session::{Answering, ControlPoint, LEDGER, Seat, Stage, put_point};
 use sql_types::Reply;
 use sql_value::Refusal;
 use std::alloc::Global;
@@ -38,11 +38,14 @@ fn keep<H: Hash32>(seat: &mut Seat<H>, cells: &[Cell], bytes: Blob) -> Option<Bl
     ensures stays { KeepsStatement seat.old seat.new }
 {
     seat.images += 1;
-    seat.point = ControlPoint::Inside(Stage::Answering(Answering {
-        reply: Reply::Image(item_count(cells) as u64),
-        said: false,
-        def: None,
-    }));
+    put_point(
+        &mut seat.point,
+        ControlPoint::Inside(Stage::Answering(Answering {
+            reply: Reply::Image(item_count(cells) as u64),
+            said: false,
+            def: None,
+        })),
+    );
     Some(bytes)
 }
 
@@ -53,11 +56,14 @@ fn keep_nothing<H: Hash32>(seat: &mut Seat<H>, cells: &[Cell]) -> Option<Blob>
     ensures comes_on { visits_left seat.new < visits_left seat.old }
     ensures stays { KeepsStatement seat.old seat.new }
 {
-    seat.point = ControlPoint::Inside(Stage::Answering(Answering {
-        reply: Reply::Refused(Refusal::NoMemory),
-        said: false,
-        def: None,
-    }));
+    put_point(
+        &mut seat.point,
+        ControlPoint::Inside(Stage::Answering(Answering {
+            reply: Reply::Refused(Refusal::NoMemory),
+            said: false,
+            def: None,
+        })),
+    );
     None
 }
 

@@ -20,7 +20,7 @@ loop-session-preserved g c =
     subst (λ n. AreWhole n c.args.sessions.now.items (slice_set items at z)) {x = suc at} (omega arith)
     (one_whole at c.args.sessions.now.items items x z inside
     (get_or_default items at c.session-item.result x inside)
-    (record { entries = c.in_ok-write_last.ensures.entries; images = c.in_ok-write_last.ensures.images })
+    (record { entries = c.in_ok-write_last.ensures.entries; images = c.write_last.ensures.images })
     c.loop-session.invariant)
 
 pub returns-clause-entries : goal.returns-clause-entries

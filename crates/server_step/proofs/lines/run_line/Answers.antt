@@ -1,4 +1,4 @@
-use Rattle.std.proofs.Common.{◌≡◌, ◌∙◌, List, ℕ, OnOk, map, ap, subst, arith, Bor}
+use Rattle.std.proofs.Common.{◌≡◌, ◌∙◌, List, ℕ, OnOk, length, map, ap, subst, arith, Bor}
 use Rattle.std.proofs.lemmas.List.{length-map}
 use mathlib.Core.Option.{some}
 use lib.ListN.{get_elem?}
@@ -8,7 +8,7 @@ use Rattle.server_engine.specs.Standing.{Stands}
 use Rattle.format_lines.specs.Line.{seen}
 use Rattle.server_result.specs.Moments.{said_with}
 use Rattle.server_step.proofs.Places.{found, within}
-use Rattle.server_step.proofs.Steps.{reached_more}
+use Rattle.server_step.proofs.Steps.{reached_more, still_open, when_ok}
 use Rattle.server_step.proofs.lines.run_line.Goals as goal
 
 pub step-requires-clause-open : goal.step-requires-clause-open
@@ -29,3 +29,7 @@ returns-clause-reached g c h database size before reached =
     c.moment.ensures.said there
     (λ k a n standing runs is. subst (λ (t : Text). OnOk c.step.result (Stands g.H.Hash32.digest k c.step.new.self (with_line n t time a))) c.in_ok-text.ensures (c.step.ensures.stands k a n standing runs is))
     reached
+
+pub returns-clause-open : goal.returns-clause-open
+returns-clause-open g c = when_ok c.step.result (still_open c.args.core.now c.step.new.self c.number_of-session.result c.step.ensures.others
+    (length c.args.sessions.now) c.step.ensures.open c.requires.open)

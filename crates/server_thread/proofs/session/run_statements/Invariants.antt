@@ -1,4 +1,4 @@
-use Rattle.std.proofs.Common.{◌≡◌, [], None}
+use Rattle.std.proofs.Common.{◌≡◌, []}
 use Rattle.base_board.specs.Boards.{seat_state, seat_parts, seat_out, IsSameSeat}
 use Rattle.server_session.specs.ControlPoints.{IsBetween}
 use Rattle.server_thread.specs.Seated.{IsAhead, HasSameKnowledge}
@@ -11,4 +11,3 @@ invariant-loop-statement g l = IsSameSeat l.initial.place l.place × (seat_parts
     × IsBetween l.worker.session.seat
     × (l.worker.taken ≡ l.statement)
     × (l.worker.job ≡ l.initial.worker.job)
-    × (l.worker.image ≡ None)

@@ -8,8 +8,8 @@ use Rattle.server_thread.proofs.visits.visit_needed.Goals as goal
 pub loop-preserved : goal.loop-preserved
 loop-preserved g c =
     let inv = c.loop.invariant in
-    let visit = c.in_ok-visit_next.ensures in
-    let stays = MatchBool-at_true _ _ c.if-not-branch.false visit.next in (
+    let visit = c.visit_next.ensures in
+    let stays = MatchBool-at_true _ _ c.if-not-visit_next.false visit.next in (
       visit.place.0 ∙ inv.0,
       visit.place.1 ∙ inv.1,
       visit.place.2,
@@ -18,5 +18,4 @@ loop-preserved g c =
       went_further _ _ _ inv.5 (inr stays),
       visit.taken ∙ inv.6,
       visit.job ∙ inv.7,
-      visit.image,
     )

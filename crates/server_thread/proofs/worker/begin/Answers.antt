@@ -6,4 +6,4 @@ returns-clause-ahead g c = λ v s idle.
     let new = c.new_session-session in
     let b = new.ensures in
     begins_ahead g.H.Hash32.digest g.C.Clock.says c.args.job v new.result s c.in_ok-name.name
-    (b.begins v s idle.present idle.role) idle b.between b.name c.in_ok-name.ensures b.entries b.images
+    (b.begins v s idle.present idle.role) idle b.between b.name c.in_ok-name.ensures b.entries b.answer b.last b.images

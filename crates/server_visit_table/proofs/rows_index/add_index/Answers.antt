@@ -4,8 +4,8 @@ use Rattle.server_session.specs.KeptCell.{rows_seen}
 use Rattle.server_session.specs.ControlPoints.{KeepsStatement}
 use Rattle.server_session.specs.Steps.{IsVisit}
 use Rattle.server_visit_table.specs.TableStages.{made_stage}
+use Rattle.server_session.specs.declared.stage.ControlPoint.{ControlPoint}
 use Rattle.server_session.specs.declared.stage.ControlPoint.TheVariants.{Inside}
-use Rattle.server_session.specs.declared.stage.Stage.{Stage}
 use Rattle.server_session.proofs.Alone.{then_seat}
 use Rattle.server_visit_table.proofs.RowsIndex.{its_indexes, its_table, stays, visits}
 use Rattle.server_visit_table.proofs.rows_index.add_index.Goals as goal
@@ -20,14 +20,14 @@ add_last_index-requires-clause-indexes g c κs within = let made = c.in-Inside-M
 
 pub returns-clause-visits : goal.returns-clause-visits
 returns-clause-visits g c = λ a. let made = c.in-Inside-Made in let y = c.args.seat.now in
-    subst (λ (s : Stage). IsVisit g.H.Hash32.digest y (rows_seen c.args.rows.now) a (rows_seen c.add_last_index.new.rows) (then_seat y y.started y.text y.stmt (Some c.add_last_index.new.running) (Inside s)))
-    (sym (c.stage_made.ensures ∙ ap (made_stage made.def) c.is_ok-added.ensures.value))
+    subst (λ (p : ControlPoint). IsVisit g.H.Hash32.digest y (rows_seen c.args.rows.now) a (rows_seen c.add_last_index.new.rows) (then_seat y y.started y.text y.stmt (Some c.add_last_index.new.running) p))
+    (sym (c.put_point.ensures ∙ ap Inside (c.stage_made.ensures ∙ ap (made_stage made.def) c.is_ok-added.ensures.value)))
     (visits g.H.Hash32.digest y c.in-Some.running c.args.rows.now c.in-Some.is made.def made.field-0-1 (sym c.replace.ensures.value ∙ made.is ∙ ap Inside made.field-0-is) a
     c.add_last_index.new.running c.add_last_index.new.rows c.add_last_index.ensures.context c.add_last_index.ensures.rest (is_ok c.add_last_index.result) c.add_last_index.ensures.made)
 
 pub returns-clause-stays : goal.returns-clause-stays
 returns-clause-stays g c = let made = c.in-Inside-Made in let y = c.args.seat.now in
-    subst (λ (s : Stage). KeepsStatement y (then_seat y y.started y.text y.stmt (Some c.add_last_index.new.running) (Inside s)))
-    (sym (c.stage_made.ensures ∙ ap (made_stage made.def) c.is_ok-added.ensures.value))
+    subst (λ (p : ControlPoint). KeepsStatement y (then_seat y y.started y.text y.stmt (Some c.add_last_index.new.running) p))
+    (sym (c.put_point.ensures ∙ ap Inside (c.stage_made.ensures ∙ ap (made_stage made.def) c.is_ok-added.ensures.value)))
     (stays g.H.Hash32.digest y c.in-Some.running c.args.rows.now c.in-Some.is made.def made.field-0-1 (sym c.replace.ensures.value ∙ made.is ∙ ap Inside made.field-0-is) c.requires.among
     c.add_last_index.new.running c.add_last_index.new.rows c.add_last_index.ensures.context c.add_last_index.ensures.rest (is_ok c.add_last_index.result))

@@ -1,31 +1,44 @@
 use Rattle.std.proofs.Common.{refl, arith}
 use Rattle.server_session.specs.Rest.{MayEndSession}
+use Rattle.server_engine.specs.Standing.{cells_seen}
 use Rattle.server_engine.proofs.Calls.{midway_near, midway_at}
+use Rattle.server_engine.proofs.Midways.{room_within}
 use Rattle.server_engine.proofs.Pairs.{index_there}
-use Rattle.server_engine.proofs.Turns.{leave_stands}
+use Rattle.server_engine.proofs.Turns.{its_apart, leave_stands}
 use Rattle.server_engine.proofs.one_thread.Core.leave.Goals as goal
 
 pub index_mut-requires : goal.index_mut-requires
 index_mut-requires g c =
     let r = c.requires in
-    let l = midway_near c.args.self.now c.args.session g.H.Hash32.digest r.h r.a r.midway in
+    let l = midway_near c.args.self.now c.args.session g.H.Hash32.digest r.h r.a r.goes.midway in
     let ok = c.args.self.now.sessions.ok in omega (arith, l, ok)
 
-pub leave-requires-after_bounds : goal.leave-requires-after_bounds
-leave-requires-after_bounds g c κs within =
+pub leave-requires-clause-ends : goal.leave-requires-clause-ends
+leave-requires-clause-ends g c κs within =
     let r = c.requires in
     let y = c.index_mut.result.now in
     let there = index_there c.args.self.now.sessions.items c.args.session y
-    (midway_near c.args.self.now c.args.session g.H.Hash32.digest r.h r.a r.midway) c.index_mut.ensures.value in
-    midway_at c.args.self.now c.args.session g.H.Hash32.digest r.h r.a r.midway (λ u. MayEndSession u.seat) r.ends y there
+    (midway_near c.args.self.now c.args.session g.H.Hash32.digest r.h r.a r.goes.midway) c.index_mut.ensures.value in
+    midway_at c.args.self.now c.args.session g.H.Hash32.digest r.h r.a r.goes.midway (λ u. MayEndSession u.seat) r.ends y there
+
+pub leave-requires-clause-apart : goal.leave-requires-clause-apart
+leave-requires-clause-apart g c κs within =
+    let r = c.requires in
+    let y = c.index_mut.result.now in
+    let there = index_there c.args.self.now.sessions.items c.args.session y
+    (midway_near c.args.self.now c.args.session g.H.Hash32.digest r.h r.a r.goes.midway) c.index_mut.ensures.value in
+    its_apart g.H.Hash32.digest r.h r.a c.args.session c.args.self.now r.goes.midway y there
+    (midway_at c.args.self.now c.args.session g.H.Hash32.digest r.h r.a r.goes.midway (λ u. MayEndSession u.seat) r.ends y there)
 
 pub returns-clause-stands : goal.returns-clause-stands
-returns-clause-stands g c = λ h a m below phase.
+returns-clause-stands g c = λ h a k phase.
     let r = c.requires in
+    let m = k.midway in
     let y = c.index_mut.result.now in
     let there = index_there c.args.self.now.sessions.items c.args.session y
-    (midway_near c.args.self.now c.args.session g.H.Hash32.digest r.h r.a r.midway) c.index_mut.ensures.value in
-    leave_stands g.H.Hash32.digest h a c.args.session c.args.self.now m y there below phase
+    (midway_near c.args.self.now c.args.session g.H.Hash32.digest r.h r.a r.goes.midway) c.index_mut.ensures.value in
+    leave_stands g.H.Hash32.digest h a c.args.session c.args.self.now m y there
+    (room_within g.H.Hash32.digest h a c.args.session a.size (cells_seen c.args.self.now.cells.items) m.y.seat k.room) phase
     c.leave.new.self c.leave.ensures _ refl refl refl
 
 pub returns-clause-turned : goal.returns-clause-turned
@@ -34,7 +47,7 @@ returns-clause-turned g c =
       y = c.index_mut.result.now;
       z = c.leave.new.self;
       there = index_there c.args.self.now.sessions.items c.args.session c.index_mut.result.now
-          (midway_near c.args.self.now c.args.session g.H.Hash32.digest r.h r.a r.midway) c.index_mut.ensures.value;
+          (midway_near c.args.self.now c.args.session g.H.Hash32.digest r.h r.a r.goes.midway) c.index_mut.ensures.value;
       are = refl;
       went = c.leave.ensures.over;
     }

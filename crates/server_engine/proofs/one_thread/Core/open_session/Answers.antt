@@ -13,7 +13,7 @@ returns-clause-stands g c = λ h a m.
     let v = some_server (g.H.Hash32.digest h) statement_of in
     session_stands g.H.Hash32.digest h a c.args.self.now m c.args.name y
     (λ w s present rests. subst (λ x. Begins g.H.Hash32.digest x w c.args.name s y.seat) m.hasher (is.begins w s present rests))
-    is.between is.name is.entries is.last is.images v.0 v.1 _ refl refl c.in_ok-push.ensures.items
+    is.between is.name is.entries is.answer is.last is.images v.0 v.1 _ refl refl c.in_ok-push.ensures.items
 
 pub returns-clause-number : goal.returns-clause-number
 returns-clause-number g c = λ h a m.

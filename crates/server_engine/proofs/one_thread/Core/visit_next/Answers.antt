@@ -10,7 +10,7 @@ use Rattle.server_engine.proofs.one_thread.Core.visit_next.Goals as goal
 pub index-requires : goal.index-requires
 index-requires g c =
     let r = c.requires in
-    let l = midway_near c.args.self.now c.args.session g.H.Hash32.digest r.h r.a r.midway in
+    let l = midway_near c.args.self.now c.args.session g.H.Hash32.digest r.h r.a r.goes.midway in
     let ok = c.args.self.now.sessions.ok in omega (arith, l, ok)
 
 pub visit-requires-after_bounds : goal.visit-requires-after_bounds
@@ -18,13 +18,12 @@ visit-requires-after_bounds g c κs within =
     let r = c.requires in
     let y = c.index.result.now in
     let there = index_there c.args.self.now.sessions.items c.args.session y
-    (midway_near c.args.self.now c.args.session g.H.Hash32.digest r.h r.a r.midway) c.index.ensures in
+    (midway_near c.args.self.now c.args.session g.H.Hash32.digest r.h r.a r.goes.midway) c.index.ensures in
     record {
       h = r.h;
       a = r.a;
-      midway = r.midway;
-      below = r.below;
-      needs = seat_of_midway c.args.self.now c.args.session g.H.Hash32.digest r.h r.a r.midway y there
+      goes = r.goes;
+      needs = seat_of_midway c.args.self.now c.args.session g.H.Hash32.digest r.h r.a r.goes.midway y there
           (λ u. need_of u ≡ need.Cell c.in-Cell.cell) (sym c.need.ensures ∙ c.in-Cell.is);
     }
 
@@ -33,13 +32,12 @@ visit_all-requires-after_bounds g c κs within =
     let r = c.requires in
     let y = c.index.result.now in
     let there = index_there c.args.self.now.sessions.items c.args.session y
-    (midway_near c.args.self.now c.args.session g.H.Hash32.digest r.h r.a r.midway) c.index.ensures in
+    (midway_near c.args.self.now c.args.session g.H.Hash32.digest r.h r.a r.goes.midway) c.index.ensures in
     record {
       h = r.h;
       a = r.a;
-      midway = r.midway;
-      below = r.below;
-      needs = seat_of_midway c.args.self.now c.args.session g.H.Hash32.digest r.h r.a r.midway y there
+      goes = r.goes;
+      needs = seat_of_midway c.args.self.now c.args.session g.H.Hash32.digest r.h r.a r.goes.midway y there
           (λ u. need_of u ≡ need.All) (sym c.need.ensures ∙ c.in-All.is);
     }
 
@@ -48,5 +46,5 @@ returns-in-Done-clause-next g c =
     let r = c.requires in
     let y = c.index.result.now in
     let there = index_there c.args.self.now.sessions.items c.args.session y
-    (midway_near c.args.self.now c.args.session g.H.Hash32.digest r.h r.a r.midway) c.index.ensures in
+    (midway_near c.args.self.now c.args.session g.H.Hash32.digest r.h r.a r.goes.midway) c.index.ensures in
     (refl, turned_none c.args.session c.args.self.now y there WentToEnd (inl refl, sym c.need.ensures ∙ c.in-Done.is))

@@ -6,8 +6,9 @@ use Rattle.server_session.proofs.Ending.{end_point, finishes, finishing}
 use Rattle.server_session.proofs.seat.Seat.finish.Goals as goal
 
 pub returns-clause-steps : goal.returns-clause-steps
-returns-clause-steps g c = subst (λ (p : ControlPoint). StepsAlone g.H.Hash32.digest c.args.self.now [] (then_seat c.args.self.now c.args.self.now.started c.args.self.now.text c.args.self.now.stmt c.args.self.now.running p))
-    (sym (c.end_point.ensures ∙ ap end_point c.is_some.ensures)) (finishes g.H.Hash32.digest c.args.self.now c.requires)
+returns-clause-steps g c = let y = c.args.self.now in
+    subst (λ (p : ControlPoint). StepsAlone g.H.Hash32.digest y [] (then_seat y y.started y.text y.stmt c.take_said.new.running p))
+    (sym (c.put_point.ensures ∙ c.end_point.ensures ∙ ap end_point c.is_some.ensures)) (finishes g.H.Hash32.digest y c.take_said.new.running c.requires c.take_said.ensures.same)
 
 pub returns-clause-end : goal.returns-clause-end
-returns-clause-end g c = finishing c.args.self.now.running c.args.self.now _ (c.end_point.ensures ∙ ap end_point c.is_some.ensures) refl
+returns-clause-end g c = finishing c.args.self.now.running c.take_said.new.running c.args.self.now _ (c.put_point.ensures ∙ c.end_point.ensures ∙ ap end_point c.is_some.ensures) refl c.take_said.ensures.same
