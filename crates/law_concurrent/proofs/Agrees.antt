@@ -1,12 +1,13 @@
 -- What agrees by one of two meanings whose functions have equal values agrees by the other.
-use Rattle.std.proofs.Common.{◌≡◌, ◌≤◌, ◌+◌, ℕ, Bool, List, [], ◌∷◌, map, Option, Some, None, refl, sym, ap, ap₂, subst, subst₂, ◌∙◌, inl, inr}
+use Rattle.std.proofs.Common.{◌≡◌, ◌≤◌, ◌+◌, ℕ, Bool, List, [], ◌∷◌, length, map, Option, Some, None, refl, sym, ap, ap₂, subst, subst₂, ◌∙◌, inl, inr}
 use Rattle.sql_types.specs.declared.digest.Digest.{Digest}
 use Rattle.sql_types.specs.declared.journal.JournalItem.{JournalItem}
 use Rattle.sql_types.specs.declared.statement.Stmt.{Stmt}
 use Rattle.spec_model.specs.Catalog.{Defs}
+use Rattle.spec_model.specs.Journals.{tx_count}
 use Rattle.spec_history.specs.Agree.{Agree, DigestsAreOf, EndedHaveTheirReplies, IdsAssignedOnce, IsEndedOver, JournalIsTheirs, LockRefusals, MarksNeverFall, ShowsHash, committed_ones}
 use Rattle.spec_history.specs.Digests.{IsDigest, replies_of_block}
-use Rattle.spec_history.specs.Facts.{Fact, digest, no_digest, facts_of, id_of, open_after, Shows}
+use Rattle.spec_history.specs.Facts.{Fact, digest, no_digest, facts_of, id_of, mark_of, open_after, Shows}
 use Rattle.spec_history.specs.InPlace.{ControlledBy, EndsInside, EndsOutside, EndsWhereItMay, HasItsForm, IsControlled, IsElseNoMemory, ReadOnlyEnd, Throughout, images_after}
 use Rattle.spec_history.specs.Inputs.{InputSession}
 use Rattle.spec_history.specs.Lists.{Text, Each, Some_of, In, sum}
@@ -17,6 +18,8 @@ use Rattle.spec_history.specs.Serial.{after_tx, texts_of}
 use Rattle.spec_history.specs.Transactions.{End, unfixed, committed, ended, Transaction, transactions}
 use Rattle.spec_history.specs.Transcripts.{Entry, statement, end_of_session, kind_of, Transcript}
 use Rattle.spec_history.proofs.Trace.{each_weaker}
+use Rattle.law_behind.specs.AgreeBehind.{AgreeBehind, CountsThePast, HasItems, IdsAssignedFrom, JournalGoesOn}
+use Rattle.law_behind.specs.Past.{Past}
 use Rattle.law_concurrent.proofs.SameMeanings.{Same, same_after, same_facts_of, still_legal}
 
 some_of : {A : Type 0} (P Q : A → Type 0) → ((x : A) → P x → Q x) → (xs : List A) → Some_of P xs → Some_of Q xs
@@ -170,6 +173,48 @@ module _ (q r : Meaning) (s : Same q r) where
     journal_is_theirs = journal input X J h.journal_is_theirs;
     ended_have_their_replies = ended_ones X J h.ended_have_their_replies;
     marks_never_fall = marks setup X J h.marks_never_fall;
+    digests_are_the_journals = digests database setup X J G h.digests_are_the_journals;
+    lock_refusals_name_holders = refusals setup X J h.lock_refusals_name_holders;
+    control_is_refused_in_place = λ i x a. throughout (IsControlled q) (IsControlled r) controlled None 0 x.entries (h.control_is_refused_in_place i x a);
+    else_no_memory = λ i x a. throughout (IsElseNoMemory q) (IsElseNoMemory r) else_no_memory None 0 x.entries (h.else_no_memory i x a);
+  }
+
+  -- ---- behind a past
+
+  ids_from : (next : ℕ) (X : List Transcript) → IdsAssignedFrom q next X → IdsAssignedFrom r next X
+  ids_from next X h = record {
+    k = h.k;
+    session = h.session;
+    one = λ i x a. subst (λ (gs : List Fact). Shows id_of (λ id. (next ≤ id) × (id ≤ h.k) × (h.session id ≡ i)) gs) (theirs x) (h.one i x a);
+    all = λ id least most. let p = h.all id least most in
+        (p.0, p.1, subst (λ (gs : List Fact). Some_of (λ g. In id (id_of g)) gs) (theirs p.0) p.2);
+    rise = λ i x a. subst IdsRise (theirs x) (h.rise i x a);
+  }
+
+  journal_on : (past : Past) (input : List InputSession) (X : List Transcript) (J : List JournalItem) → JournalGoesOn q past input X J → JournalGoesOn r past input X J
+  journal_on past input X J h = record {
+    legal = still_legal q r s J h.legal;
+    begins = h.begins;
+    no_others = h.no_others;
+    items = λ i t x a b. h.items i t x a b ∙ ap (λ (gs : List Fact). committed_ones (transactions gs)) (theirs x);
+    ends = λ i x a. throughout (EndsWhereItMay q) (EndsWhereItMay r) ends_where None 0 x.entries (h.ends i x a);
+  }
+
+  counts : (past : Past) (X : List Transcript) (J : List JournalItem) → CountsThePast q past X J → CountsThePast r past X J
+  counts past X J h = record {
+    marks = λ i x a. subst (λ (gs : List Fact). Shows (mark_of J) (λ m. tx_count past.items ≤ m) gs) (theirs x) (h.marks i x a);
+    images = λ i x a. subst (Each (HasItems (length past.items))) (theirs x) (h.images i x a);
+    none = λ i x a k. h.none i x a (subst (λ (gs : List Fact). In no_digest gs) (sym (theirs x)) k);
+  }
+
+  pub then_agrees_behind : (database : Text) (past : Past) (input : List InputSession) (setup : Option ℕ) (X : List Transcript) (J : List JournalItem) (G : List Digest) → AgreeBehind q database past input setup X J G → AgreeBehind r database past input setup X J G
+  then_agrees_behind database past input setup X J G h = record {
+    statements_are_answered = h.statements_are_answered;
+    ids_are_assigned_once = ids_from past.next X h.ids_are_assigned_once;
+    journal_goes_on = journal_on past input X J h.journal_goes_on;
+    ended_have_their_replies = ended_ones X J h.ended_have_their_replies;
+    marks_never_fall = marks setup X J h.marks_never_fall;
+    past_counts = counts past X J h.past_counts;
     digests_are_the_journals = digests database setup X J G h.digests_are_the_journals;
     lock_refusals_name_holders = refusals setup X J h.lock_refusals_name_holders;
     control_is_refused_in_place = λ i x a. throughout (IsControlled q) (IsControlled r) controlled None 0 x.entries (h.control_is_refused_in_place i x a);

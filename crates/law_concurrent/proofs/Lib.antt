@@ -1,8 +1,9 @@
 mod Agrees
-mod Behind
 mod Comes
+mod DigestsBefore
 mod Images
 mod Meets
+mod MeetsBehind
 mod Orders
 mod Real
 pub mod Said

@@ -36,14 +36,15 @@ use Rattle.law_kept_images.specs.Wrote.{transcripts_in}
 use Rattle.law_kept_images.proofs.SameNames.{differ, same_list}
 use Rattle.law_concurrent.specs.Joined.{IsJoined, KnewThatOver}
 use Rattle.law_concurrent.specs.Together.{AreFormed, IsMomentOf, RanTogether, names_in, session_in}
-use Rattle.law_concurrent.proofs.Orders.{of_same}
+use Rattle.law_behind.specs.Past.{no_past}
+use Rattle.law_concurrent.proofs.Orders.{of_same, with_past, without_past}
 use Rattle.law_concurrent.proofs.SameTranscripts.{all_in, apart_by_place, at_of, each_both, each_flat, each_map, each_named, each_of, each_within, in_at, in_either, in_some, in_transcripts, inputs_are, named_in, no_longer, transcript_at}
 
-nameless : (r : Role) → IsAtRest r → session_names r ≡ []
+pub nameless : (r : Role) → IsAtRest r → session_names r ≡ []
 nameless (session x) h = absurd h
 nameless r h = refl
 
-timeless : (r : Role) → IsAtRest r → session_moments r ≡ []
+pub timeless : (r : Role) → IsAtRest r → session_moments r ≡ []
 timeless (session x) h = absurd h
 timeless r h = refl
 
@@ -52,7 +53,7 @@ abbrev pub AreInOrder : Type 0
 AreInOrder = (q : Meaning) (database : Text) (history : List Act) (input : List InputSession) (setup : Option ℕ) (transcripts : List Transcript)
     → Good q database first history → IsWhole input setup transcripts history → HaveOneOrder q setup transcripts (run first history).items
 
-same_ledger : (k l : LedgerCell) → Ledger k ≡ Ledger l → k ≡ l
+pub same_ledger : (k l : LedgerCell) → Ledger k ≡ Ledger l → k ≡ l
 same_ledger k l e = cc
 
 module _ (are_in_order : AreInOrder) (v : Server) (cells : List Cell) (w : Written) (ws : List Written) (joined : IsJoined v cells (w ∷ ws)) (knew : KnewThatOver w ws) (apart : NamesApart (names_in (transcripts_in (w ∷ ws)))) where
@@ -172,7 +173,12 @@ module _ (are_in_order : AreInOrder) (v : Server) (cells : List Cell) (w : Writt
   in_order : HaveOneOrder v.meaning (Some 0) T st.ledger.items
   in_order = let o = are_in_order v.meaning st.ledger.database history input (Some first_at.0) X st.transcripts_agree.good whole in
       subst (HaveOneOrder v.meaning (Some 0) T) st.transcripts_agree.items
-      (record { order = o.order; is = of_same v.meaning X (run first history).items o.order first_at.0 w.transcript (transcripts_in ws) first_at.1 is_ours is_theirs o.is })
+      (record {
+        order = o.order;
+        is = without_past v.meaning (Some 0) T (run first history).items o.order
+            (of_same v.meaning no_past X (run first history).items o.order first_at.0 w.transcript (transcripts_in ws) first_at.1 is_ours is_theirs
+            (with_past v.meaning (Some first_at.0) X (run first history).items o.order o.is));
+      })
 
   -- ---- images, moments, forms
 

@@ -1,6 +1,10 @@
 pub mod CameTo
+pub mod CameToBehind
 pub mod InOrder
+pub mod InOrderBehind
 pub mod Joined
+pub mod JoinedBehind
 pub mod Threads
 pub mod Together
+pub mod TogetherBehind
 pub use Rattle.law_kept_images.specs.Held

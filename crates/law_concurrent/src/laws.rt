@@ -23,6 +23,8 @@ ghost use Rattle.law_concurrent.specs.Joined.{IsJoined, KnewThatOver};
 ghost use Rattle.law_concurrent.specs.Threads.{HasJoined};
 ghost use Rattle.law_concurrent.specs.Together.{RanTogether, names_in};
 
+use crate::behind::statements_have_one_meaning_behind_a_past;
+use law_behind::without_a_past_nothing_else_is_meant;
 use law_kept_images::{
     digests_are_held_where_their_blocks_are_closed, images_of_legal_journals_verify,
 };
@@ -67,4 +69,6 @@ pub fn runs_side_by_side_agree()
     statements_have_one_meaning();
     images_of_legal_journals_verify();
     digests_are_held_where_their_blocks_are_closed();
+    statements_have_one_meaning_behind_a_past();
+    without_a_past_nothing_else_is_meant();
 }

@@ -15,7 +15,7 @@ use Rattle.law_sequential.specs.Outcome.{IsClosedThere}
 use Rattle.law_headline.specs.Before.{ComesBefore, InOneOrder, InOrderOfLines}
 
 -- what holds of each of some elements holds of one in their middle
-each_at : {A : Type 0} (P : A → Type 0) (xs : List A) (x : A) (ys : List A) → Each P (xs ++ x ∷ ys) → P x
+pub each_at : {A : Type 0} (P : A → Type 0) (xs : List A) (x : A) (ys : List A) → Each P (xs ++ x ∷ ys) → P x
 each_at P [] x ys h = h.0
 each_at P (y ∷ xs) x ys h = each_at P xs x ys h.1
 
@@ -43,6 +43,9 @@ module _ (J : List JournalItem) where
   has_block block items hash [] between after h = each_at (ClosedIn J block) between (image items) after h.0
   has_block block items hash (digest b other ∷ before) between after h = has_block block items hash before between after h.1
   has_block block items hash (g ∷ before) between after h = has_block block items hash before between after h
+
+  pub closed_by_images : (facts : List Fact) → ImagesHave J facts → (block items : ℕ) → ComesBefore block items facts → block < blocks (cut J items)
+  closed_by_images facts have block items c = has_block block items c.hash c.before c.between c.after (subst (ImagesHave J) c.is have)
 
   pub closed_in_one_order : (q : Meaning) (X : List Transcript) (facts : List Fact) → InOneOrder X J q facts → (block items : ℕ) → ComesBefore block items facts
       → block < blocks (cut J items)

@@ -1,4 +1,5 @@
 mod Before
+mod BehindPast
 mod Bound
 mod Saved
 mod Shown

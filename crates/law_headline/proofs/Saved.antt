@@ -30,7 +30,7 @@ use Rattle.law_headline.specs.Headline.{IsBoundBy, IsSaved, image_at}
 use Rattle.law_headline.proofs.Bound.{AreBound, AreEncodable, cut_is_image}
 
 -- what holds of all that some lists have holds of what one of them has
-in_some : {A : Type 0} (P : A → Type 0) (lists : List (List A)) (x : A) → Each (λ xs. Each P xs) lists → Some_of (λ xs. In x xs) lists → P x
+pub in_some : {A : Type 0} (P : A → Type 0) (lists : List (List A)) (x : A) → Each (λ xs. Each P xs) lists → Some_of (λ xs. In x xs) lists → P x
 in_some P [] x all some = absurd some
 in_some P (xs ∷ lists) x all some = ⊎_elim (λ i. each_in P xs x all.0 i) (λ s. in_some P lists x all.1 s) some
 

@@ -1,5 +1,7 @@
 pub mod Before
+pub mod BeforeBehind
 pub mod Headline
+pub mod HeadlineBehind
 pub mod Shown
 pub use Rattle.law_kept_images.specs.Accepted
 pub use Rattle.law_kept_images.specs.Held

@@ -1,4 +1,5 @@
 pub mod Accepts
+pub mod WithPast
 mod Closed
 pub use Rattle.law_sequential.proofs.InSessionOrder
 pub use Rattle.law_sequential.proofs.JournalKept

@@ -1,4 +1,5 @@
 pub mod Accepted
+pub mod AcceptedBehind
 pub mod LastImage
 pub use Rattle.law_sequential.specs.SessionOutput
 pub use Rattle.law_sequential.specs.Wrote

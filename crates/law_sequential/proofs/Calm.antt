@@ -1,11 +1,11 @@
 -- What steps don't do: which of their deeds concern no closing.
-use Rattle.std.proofs.Common.{ℕ, ◌+◌, Bool, true, false, List, [], ◌∷◌, ◌++◌, map, Option, Some, None, refl}
+use Rattle.std.proofs.Common.{ℕ, Bool, true, false, List, [], ◌∷◌, ◌++◌, map, Option, Some, None, refl}
 use Rattle.std.specs.Prelude.{if◌then◌else◌}
 use Rattle.sql_types.specs.declared.lock.Hold.{Hold}
 use Rattle.sql_types.specs.declared.lock.LockRequest.{LockRequest}
 use Rattle.sql_types.specs.declared.reply.Reply.{Reply}
 use Rattle.spec_model.specs.Journals.{Line}
-use Rattle.spec_history.specs.Acts.{SessionAct, starts, takes, fails, commits, issues, answers, stops, by}
+use Rattle.spec_history.specs.Acts.{SessionAct, starts, takes, fails, commits, issues, answers, stops}
 use Rattle.spec_history.specs.Histories.{Due, pending, full_or, WaitsForNone}
 use Rattle.spec_history.specs.Lists.{Text, Each}
 use Rattle.spec_history.specs.Meaning.{Meaning}

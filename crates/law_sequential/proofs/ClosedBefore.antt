@@ -4,12 +4,13 @@ use Rattle.std.specs.Prelude.{◌==◌}
 use Rattle.std.proofs.lemmas.Bool.{cases_lt, eqb-true}
 use Rattle.sql_types.specs.declared.journal.JournalItem.{JournalItem}
 use Rattle.sql_types.specs.declared.journal.JournalItem.TheVariants.{Tx, Close}
-use Rattle.spec_model.specs.Journals.{closed}
+use Rattle.spec_model.specs.Journals.{closed, tx_count}
 use Rattle.spec_history.specs.Facts.{Fact, began, said, failed, met, placed, passed, over, digest, image, no_digest}
 use Rattle.spec_history.specs.Journals.{blocks, in_blocks}
 use Rattle.spec_history.specs.Lists.{Each}
 use Rattle.spec_history.specs.Serial.{ClosesPending}
 use Rattle.spec_history.specs.StepOrder.{Counted, When, TakesClose, ItemsInOrder}
+use Rattle.law_behind.specs.Past.{Past, since, unclosed}
 use Rattle.law_sequential.specs.Outcome.{IsClosedThere}
 
 -- ---- blocks of parts of a journal
@@ -254,3 +255,16 @@ module _ (N : ℕ) (J : List JournalItem) (closes : ClosesPending 0 J) (items : 
 
 pub closed_before : (N : ℕ) (J : List JournalItem) (n : ℕ) (before after : List Fact) (items : ℕ) → ClosesPending 0 J → ItemsInOrder N 0 0 J (before ++ image items ∷ after) → Counted J n 0 (before ++ image items ∷ after) → Each (IsClosedThere J items) before
 closed_before N J n before after items closes goes counted = go N J closes items after before [] J 0 0 n 0 refl refl refl goes counted
+
+-- ---- behind a past
+
+closed_within : (A K : List JournalItem) (p : ℕ) → ClosesPending p (A ++ K) → closed A ≤ p + tx_count A
+closed_within [] K p c = omega arith
+closed_within (Tx id name time explicit script ∷ A) K p c = let e = closed_within A K (suc p) c in omega (arith, e)
+closed_within (Close k ∷ A) K p c = let e = closed_within A K (p - k) c.3 in let few = c.2 in omega (arith, e, few)
+
+pub closed_behind : (N : ℕ) (J : List JournalItem) (past : Past) (before after : List Fact) (items : ℕ) → J ≡ past.items ++ since past J → ClosesPending 0 J
+    → ItemsInOrder N (unclosed past.items) (length past.items) (since past J) (before ++ image items ∷ after) → Counted J past.next (tx_count past.items) (before ++ image items ∷ after) → Each (IsClosedThere J items) before
+closed_behind N J past before after items begins closes goes counted =
+    let few = closed_within past.items (since past J) 0 (subst (ClosesPending 0) begins closes) in
+    go N J closes items after before past.items (since past J) (unclosed past.items) (length past.items) past.next (tx_count past.items) begins refl (omega (arith, few)) goes counted

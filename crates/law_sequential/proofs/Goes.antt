@@ -1,5 +1,5 @@
 -- How a course goes on: with each step, with what it adds.
-use Rattle.std.proofs.Common.{◌≡◌, ◌≢◌, ℕ, zero, suc, ◌≤◌, ◌+◌, Bool, length, true, List, [], ◌∷◌, ◌++◌, map, slice_set, refl, sym, ap, ap₂, subst, subst₂, ◌∙◌, append-nil, append_assoc, arith}
+use Rattle.std.proofs.Common.{◌≡◌, ◌≢◌, ℕ, zero, suc, ◌≤◌, Bool, length, true, List, [], ◌∷◌, ◌++◌, map, slice_set, refl, sym, ap, ap₂, subst, subst₂, ◌∙◌, append-nil, append_assoc, arith}
 use Rattle.std.specs.Prelude.{◌==◌}
 use Rattle.std.proofs.lemmas.Bool.{ne_eqb}
 use mathlib.Core.Option.{some, none, some-injective}
@@ -199,15 +199,15 @@ module _ {v : Server} {database : Text} {size : ℕ} {phase : Phase} {names : Li
 
 -- ---- with several steps alone
 
-acts_append : (xs ys : List SessionAct) → map did (xs ++ ys) ≡ map did xs ++ map did ys
+pub acts_append : (xs ys : List SessionAct) → map did (xs ++ ys) ≡ map did xs ++ map did ys
 acts_append [] ys = refl
 acts_append (x ∷ xs) ys = ap (λ (ds : List AnonymousAct). did x ∷ ds) (acts_append xs ys)
 
-each_left : (P : AnonymousAct → Type 0) (xs ys : List SessionAct) → Each P (map did (xs ++ ys)) → Each P (map did xs) × Each P (map did ys)
+pub each_left : (P : AnonymousAct → Type 0) (xs ys : List SessionAct) → Each P (map did (xs ++ ys)) → Each P (map did xs) × Each P (map did ys)
 each_left P [] ys h = (tt, h)
 each_left P (x ∷ xs) ys h = let r = each_left P xs ys h.1 in ((h.0, r.0), r.1)
 
-still_inactive : (seats : List SeatState) (j : ℕ) (t : SeatState) → InactiveExcept seats j → InactiveExcept (slice_set seats j t) j
+pub still_inactive : (seats : List SeatState) (j : ℕ) (t : SeatState) → InactiveExcept seats j → InactiveExcept (slice_set seats j t) j
 still_inactive seats j t quiet k s ne e = quiet k s ne (sym (set_else seats j k t ne) ∙ e)
 
 module _ {v : Server} {database : Text} {size : ℕ} {phase : Phase} {names : List Text} {lines : List InputLine} {cells : List Cell} {seats : List SeatState} (c : SequentialRun v database size phase names lines cells seats)
@@ -292,15 +292,15 @@ module _ {v : Server} {database : Text} {size : ℕ} {phase : Phase} {names : Li
 
 -- ---- a seat more, with a session that begins
 
-last_there : (seats : List SeatState) (s : SeatState) → get_elem? (seats ++ s ∷ []) (length seats) ≡ some s
+pub last_there : (seats : List SeatState) (s : SeatState) → get_elem? (seats ++ s ∷ []) (length seats) ≡ some s
 last_there [] s = refl
 last_there (t ∷ seats) s = last_there seats s
 
-last_set : (seats : List SeatState) (s t : SeatState) → slice_set (seats ++ s ∷ []) (length seats) t ≡ seats ++ t ∷ []
+pub last_set : (seats : List SeatState) (s t : SeatState) → slice_set (seats ++ s ∷ []) (length seats) t ≡ seats ++ t ∷ []
 last_set [] s t = refl
 last_set (u ∷ seats) s t = ap (λ (us : List SeatState). u ∷ us) (last_set seats s t)
 
-before_last : (seats : List SeatState) (s u : SeatState) (k : ℕ) → k ≢ length seats → get_elem? (seats ++ s ∷ []) k ≡ some u → get_elem? seats k ≡ some u
+pub before_last : (seats : List SeatState) (s u : SeatState) (k : ℕ) → k ≢ length seats → get_elem? (seats ++ s ∷ []) k ≡ some u → get_elem? seats k ≡ some u
 before_last [] s u zero ne e = absurd (ne refl)
 before_last [] s u (suc k) ne e = e
 before_last (t ∷ seats) s u zero ne e = e

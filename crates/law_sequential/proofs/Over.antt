@@ -1,37 +1,40 @@
 -- What a course comes to once all its sessions are over.
-use Rattle.std.proofs.Common.{◌≡◌, ◌≢◌, ℕ, zero, suc, ◌<◌, List, [], ◌∷◌, Option, None, refl, sym, ap, subst, subst₂, ◌∙◌, append-nil, inl, inr, ⊎_elim}
+use Rattle.std.proofs.Common.{◌≡◌, ◌≢◌, ℕ, zero, suc, ◌<◌, List, [], ◌∷◌, ◌++◌, map, Option, None, Some, refl, sym, ap, subst, subst₂, ◌∙◌, append-nil, inl, inr, ⊎_elim}
 use mathlib.Core.Option.{some, none, some-injective}
 use lib.ListN.{get_elem?}
-use Rattle.spec_history.specs.Agree.{Agree}
-use Rattle.spec_history.specs.ExactRefusals.{StepOrder}
-use Rattle.spec_history.specs.Histories.{ClosesInStep, EndsComeLast, SetupRan, pending}
+use Rattle.spec_history.specs.Histories.{ClosesInStep, EndsComeLast, OneAtATime, SetupRan, lines_of, pending}
 use Rattle.spec_history.specs.Inputs.{InputLine, InputSession, sessions_in}
 use Rattle.spec_history.specs.Lists.{Text, Each, Some_of, At, In}
 use Rattle.spec_history.specs.Transcripts.{Transcript, statements}
-use Rattle.spec_history.specs.Worlds.{first}
-use Rattle.spec_protocol.specs.AtTheEnd.{AllRest, AreWritten, HasItsImages, NamesDiffer, SessionsDiffer}
+use Rattle.spec_history.specs.Worlds.{World, first, run}
+use Rattle.spec_protocol.specs.AtTheEnd.{AllRest, HasItsImages, NamesDiffer, SessionsDiffer, WasKnown}
 use Rattle.spec_protocol.specs.Cells.{Cell, LedgerCell, pending_in}
-use Rattle.spec_protocol.specs.AnonymousActs.{AnonymousAct, steps_anonymous_acts}
-use Rattle.spec_protocol.specs.Follows.{names_begun}
+use Rattle.spec_protocol.specs.AnonymousActs.{AnonymousAct, anonymous_act, steps_anonymous_acts}
+use Rattle.spec_protocol.specs.Follows.{BeginInTurn, names_begun}
+use Rattle.spec_protocol.specs.LocksDecideIn.{LocksDecideIn}
 use Rattle.spec_protocol.specs.Reordered.{NamesApart}
 use Rattle.spec_protocol.specs.Seats.{SeatState, Written, IsAtRest}
 use Rattle.spec_protocol.specs.Server.{Server}
 use Rattle.spec_protocol.specs.StandTogether.{History, Stands}
-use Rattle.law_protocol.proofs.BegunNames.{in_order}
 use Rattle.law_protocol.proofs.KeptImages.{have_images}
-use Rattle.law_protocol.proofs.SinceFirst.{SinceFirst}
-use Rattle.law_protocol.proofs.StepOrderKept.{keeps_order}
-use Rattle.law_protocol.proofs.TheEnd as the_end
-use Rattle.law_sequential.specs.SequentialRun.{SequentialRun}
+use Rattle.law_behind.specs.AgreeBehind.{AgreeBehind}
+use Rattle.law_behind.specs.Forgotten.{without}
+use Rattle.law_behind.specs.OrderBehind.{HaveOneOrderBehind, StepOrderBehind}
+use Rattle.law_behind.specs.Past.{Past, unclosed}
+use Rattle.law_continued.specs.Start.{Start}
+use Rattle.law_going_on.specs.EndBehind.{AreWrittenBehind}
+use Rattle.law_sequential.specs.RunStart.{RunStart}
+use Rattle.law_sequential.specs.RunBehind.{SequentialRunBehind}
 use Rattle.law_sequential.specs.EndsLast.{Phase, running, ending, CameSo, EndsLast}
 use Rattle.law_sequential.specs.InStep.{InStep}
-use Rattle.law_sequential.specs.Outcome.{Outcome}
+use Rattle.law_sequential.specs.OutcomeBehind.{OutcomeBehind}
 use Rattle.law_sequential.specs.Wrote.{WroteOne, WroteEach, Wrote, transcripts_in}
 use Rattle.law_sequential.proofs.Closes.{closes_in_step}
 use Rattle.law_sequential.proofs.Ends.{ends_last}
-use Rattle.law_sequential.proofs.Goes.{since, ledger_is}
+use Rattle.law_sequential.proofs.GoesBehind.{since, ledger_is}
 use Rattle.law_sequential.proofs.LedgerInStep.{due_below}
 use Rattle.law_sequential.proofs.SameNames.{names_in, same_list, differ}
+use Rattle.law_sequential.proofs.SinceStart.{SinceStart}
 use Rattle.law_sequential.proofs.Texts.{rows_texts, input_is}
 
 -- ---- lists by place
@@ -118,21 +121,41 @@ came_last ending anonymous_acts h = h
 
 -- ---- all together
 
-module _ {v : Server} {database : Text} {size : ℕ} {phase : Phase} {names : List Text} {lines : List InputLine} {cells : List Cell} (parent : SeatState) (others : List SeatState)
-    (c : SequentialRun v database size phase names lines cells (parent ∷ others)) (written : List Written)
+-- the law that is used
+abbrev pub AgreesBehind : Type 0
+AgreesBehind = (v : Server) (database : Text) (size : ℕ) (start : Start v database size) (events : History) (cells : List Cell) (seats : List SeatState)
+    → (st : Stands v (start.history ++ events) cells (start.seat ∷ seats)) → AllRest seats
+    → (input : List InputSession) × (X : List Transcript)
+    × AreWrittenBehind start.count events seats input X
+    × (NamesDiffer seats → SessionsDiffer X)
+    × (BeginInTurn (run first start.history) events → map (λ x. x.session) X ≡ names_begun (map anonymous_act events))
+    × (SessionsDiffer X → (setup : Option ℕ) → SetupRan setup (without start.count events)
+    → AgreeBehind v.meaning st.ledger.database start.past input setup X st.ledger.items st.ledger.issued × HaveOneOrderBehind v.meaning start.past setup X st.ledger.items)
+    × ((N : ℕ) → SessionsDiffer X → LocksDecideIn v start.history events → OneAtATime (run first start.history) events → EndsComeLast (run first start.history) events
+    → ClosesInStep N (pending (unclosed start.past.items)) events → StepOrderBehind v.meaning N start.past (lines_of (run first start.history) events) X st.ledger.items)
+    × (SessionsDiffer X → (u : ℕ) (x : Transcript) → At X u x → WasKnown seats x → SetupRan (Some u) (without start.count events))
+
+module _ (agrees_behind : AgreesBehind) {v : Server} {database : Text} {size : ℕ} {past : Past} {start : RunStart v database size past} {phase : Phase} {names : List Text} {lines : List InputLine} {cells : List Cell} (parent : SeatState) (others : List SeatState)
+    (c : SequentialRunBehind start phase names lines cells (parent ∷ others)) (written : List Written)
     (rests : IsAtRest parent.role) (no_more : parent.written ≡ []) (each : WroteEach others written)
     (named : names_in (transcripts_in written) ≡ names) (apart : NamesApart names) (below : pending_in c.ledger < size) where
   abbrev seats : List SeatState
   seats = parent ∷ others
 
-  abbrev s : SinceFirst v database size cells seats c.steps
+  abbrev begins : Start v database size
+  begins = start.begins
+
+  abbrev s : SinceStart begins cells seats c.steps
   s = since c
 
-  abbrev history : History
-  history = s.later.history
+  abbrev events : History
+  events = s.events
 
-  abbrev st : Stands v history cells seats
-  st = s.later.stands
+  abbrev W : World
+  W = run first begins.history
+
+  abbrev st : Stands v (begins.history ++ events) cells (begins.seat ∷ seats)
+  st = s.stands
 
   abbrev X : List Transcript
   X = transcripts_in written
@@ -140,63 +163,72 @@ module _ {v : Server} {database : Text} {size : ℕ} {phase : Phase} {names : Li
   rest_all : AllRest seats
   rest_all = all_rest parent others written no_more each rests
 
-  abbrev first_X : List Transcript
-  first_X = the_end.X v history cells seats st rest_all
+  abbrev input : List InputSession
+  input = (agrees_behind v database size begins events cells seats st rest_all).0
 
-  are_written : AreWritten history seats (the_end.input v history cells seats st rest_all) first_X
-  are_written = the_end.are_written v history cells seats st rest_all
+  abbrev first_X : List Transcript
+  first_X = (agrees_behind v database size begins events cells seats st rest_all).1
+
+  are_written : AreWrittenBehind begins.count events seats input first_X
+  are_written = (agrees_behind v database size begins events cells seats st rest_all).2
 
   first_names : names_in first_X ≡ names
-  first_names = in_order v cells seats st s.follows.in_turn (the_end.input v history cells seats st rest_all) first_X are_written ∙ ap names_begun s.are ∙ c.begun
+  first_names = (agrees_behind v database size begins events cells seats st rest_all).4 s.follows.in_turn ∙ ap names_begun s.are ∙ c.begun
 
   -- they are those that are told
   same_X : first_X ≡ X
   same_X = same_list first_X X names first_names named apart (each_from_at (λ x. In x X) first_X (λ i x a. let w = are_written.written i x a in is_one parent others written no_more each w.j w.seat x w.there w.has))
 
-  both_ways : SessionsDiffer first_X × ((setup : Option ℕ) → SetupRan setup history → Agree v.meaning st.ledger.database (the_end.input v history cells seats st rest_all) setup first_X st.ledger.items st.ledger.issued)
-  both_ways = the_end.agrees_then v history cells seats st rest_all (names_differ parent others written no_more each names named apart)
+  differs : SessionsDiffer first_X
+  differs = (agrees_behind v database size begins events cells seats st rest_all).3 (names_differ parent others written no_more each names named apart)
 
-  end_last : EndsComeLast first history
-  end_last = let e = came_last phase (steps_anonymous_acts c.steps) c.came_so in ends_last first history e.before e.after (s.are ∙ e.are) e.none_ended e.none_taken
+  end_last : EndsComeLast W events
+  end_last = let e = came_last phase (steps_anonymous_acts c.steps) c.came_so in ends_last W events e.before e.after (s.are ∙ e.are) e.none_ended e.none_taken
 
-  in_step : ClosesInStep size (pending 0) history
-  in_step = closes_in_step size history (pending 0) (pending_in c.ledger) (subst₂ (λ ds due. InStep size (pending 0) ds due) (sym s.are) (due_below size c.ledger below) c.closes)
+  same_due : pending (unclosed past.items) ≡ pending (unclosed begins.past.items)
+  same_due = ap (λ (p : Past). pending (unclosed p.items)) (sym start.of_past)
 
-  order : StepOrder v.meaning size lines first_X st.ledger.items
-  order = subst (λ (ls : List InputLine). StepOrder v.meaning size ls first_X st.ledger.items) (s.follows.lines_are ∙ c.taken_up)
-      (keeps_order v history cells seats st s.locks_decide size (the_end.input v history cells seats st rest_all) first_X are_written both_ways.0 (s.one_at_a_time c.one_by_one) end_last in_step)
+  in_step : ClosesInStep size (pending (unclosed begins.past.items)) events
+  in_step = closes_in_step size events (pending (unclosed begins.past.items)) (pending_in c.ledger)
+      (subst (λ due. InStep size due (map anonymous_act events) (pending (pending_in c.ledger))) same_due
+      (subst₂ (λ ds due. InStep size (pending (unclosed past.items)) ds due) (sym s.are) (due_below size c.ledger below) c.closes))
 
-  agreed : Agree v.meaning database (the_end.input v history cells seats st rest_all) None first_X st.ledger.items st.ledger.issued
-  agreed = subst (λ (db : Text). Agree v.meaning db (the_end.input v history cells seats st rest_all) None first_X st.ledger.items st.ledger.issued) s.same_database (both_ways.1 None tt)
+  order : StepOrderBehind v.meaning size past lines first_X st.ledger.items
+  order = subst₂ (λ (p : Past) (ls : List InputLine). StepOrderBehind v.meaning size p ls first_X st.ledger.items) start.of_past (s.follows.lines_are ∙ c.taken_up)
+      ((agrees_behind v database size begins events cells seats st rest_all).6 size differs s.locks_decide (s.one_at_a_time c.one_by_one) end_last in_step)
 
-  the_input : the_end.input v history cells seats st rest_all ≡ sessions_in lines names
-  the_input = input_is lines (the_end.input v history cells seats st rest_all) first_X agreed.statements_are_answered
-      (λ i x a. ap statements (sym (order.order.entries i x a)) ∙ rows_texts first_X lines order.rows both_ways.0 order.order.lines_answered i x a)
+  agreed : AgreeBehind v.meaning database past input None first_X st.ledger.items st.ledger.issued
+  agreed = subst₂ (λ (p : Past) (db : Text). AgreeBehind v.meaning db p input None first_X st.ledger.items st.ledger.issued) start.of_past s.same_database
+      ((agrees_behind v database size begins events cells seats st rest_all).5 differs None tt).0
+
+  the_input : input ≡ sessions_in lines names
+  the_input = input_is lines input first_X agreed.statements_are_answered
+      (λ i x a. ap statements (sym (order.order.entries i x a)) ∙ rows_texts first_X lines order.rows differs order.order.lines_answered i x a)
       ∙ ap (sessions_in lines) first_names
 
-  then_agreed : Agree v.meaning database (sessions_in lines names) None X st.ledger.items st.ledger.issued
-  then_agreed = subst₂ (λ (input : List InputSession) (Y : List Transcript). Agree v.meaning database input None Y st.ledger.items st.ledger.issued) the_input same_X agreed
+  then_agreed : AgreeBehind v.meaning database past (sessions_in lines names) None X st.ledger.items st.ledger.issued
+  then_agreed = subst₂ (λ (i : List InputSession) (Y : List Transcript). AgreeBehind v.meaning database past i None Y st.ledger.items st.ledger.issued) the_input same_X agreed
 
   images_of : Each (HasItsImages v st.ledger) written
-  images_of = each_one (HasItsImages v st.ledger) others written each (λ k t e. have_images v history cells seats st (suc k) t e)
+  images_of = each_one (HasItsImages v st.ledger) others written each (λ k t e. have_images v (begins.history ++ events) cells (begins.seat ∷ seats) st (suc (suc k)) t e)
 
-  outcome_then : Outcome v database size names lines written st.ledger
+  outcome_then : OutcomeBehind v database size past names lines written st.ledger
   outcome_then = record {
     agree = then_agreed;
-    in_order = subst (λ (Y : List Transcript). StepOrder v.meaning size lines Y st.ledger.items) same_X order;
+    in_order = subst (λ (Y : List Transcript). StepOrderBehind v.meaning size past lines Y st.ledger.items) same_X order;
     images = images_of;
     legal = st.ledger_is_legal.legal;
   }
 
-  pub outcome : Outcome v database size names lines written c.ledger
-  outcome = subst (λ (l : LedgerCell). Outcome v database size names lines written l) (sym (ledger_is c)) outcome_then
+  pub outcome : OutcomeBehind v database size past names lines written c.ledger
+  outcome = subst (λ (l : LedgerCell). OutcomeBehind v database size past names lines written l) (sym (ledger_is c)) outcome_then
 
 -- the same over what the seats wrote
-pub outcome_is : {v : Server} {database : Text} {size : ℕ} {phase : Phase} {names : List Text} {lines : List InputLine} {cells : List Cell} (seats : List SeatState) (c : SequentialRun v database size phase names lines cells seats) (written : List Written)
-    → Wrote seats written → names_in (transcripts_in written) ≡ names → NamesApart names → pending_in c.ledger < size → Outcome v database size names lines written c.ledger
-outcome_is {v} {database} {size} {phase} {names} {lines} {cells} seats c written wrote named apart below = by seats c wrote.are below
+pub outcome_is : AgreesBehind → {v : Server} {database : Text} {size : ℕ} {past : Past} {start : RunStart v database size past} {phase : Phase} {names : List Text} {lines : List InputLine} {cells : List Cell} (seats : List SeatState) (c : SequentialRunBehind start phase names lines cells seats) (written : List Written)
+    → Wrote seats written → names_in (transcripts_in written) ≡ names → NamesApart names → pending_in c.ledger < size → OutcomeBehind v database size past names lines written c.ledger
+outcome_is agrees_behind {v} {database} {size} {past} {start} {phase} {names} {lines} {cells} seats c written wrote named apart below = by seats c wrote.are below
   where
-    by : (us : List SeatState) (d : SequentialRun v database size phase names lines cells us) → us ≡ wrote.parent ∷ wrote.others → pending_in d.ledger < size → Outcome v database size names lines written d.ledger
+    by : (us : List SeatState) (d : SequentialRunBehind start phase names lines cells us) → us ≡ wrote.parent ∷ wrote.others → pending_in d.ledger < size → OutcomeBehind v database size past names lines written d.ledger
     by [] d e l = let f : [] ≡ wrote.parent ∷ wrote.others = e in cc
     by (p ∷ us) d e l = let h : p ≡ wrote.parent = cc in let t : us ≡ wrote.others = cc in
-        outcome p us d written (subst (λ (z : SeatState). IsAtRest z.role) (sym h) wrote.rests) (ap (λ (z : SeatState). z.written) h ∙ wrote.none) (subst (λ (zs : List SeatState). WroteEach zs written) (sym t) wrote.each) named apart l
+        outcome agrees_behind p us d written (subst (λ (z : SeatState). IsAtRest z.role) (sym h) wrote.rests) (ap (λ (z : SeatState). z.written) h ∙ wrote.none) (subst (λ (zs : List SeatState). WroteEach zs written) (sym t) wrote.each) named apart l

@@ -85,7 +85,7 @@ module _ (moments later : List ℕ) (k : SessionOutput) (s t : SeatState) where
   })
 
 -- who runs there isn't over
-still_runs : (moments : List ℕ) (k : SessionOutput) (s : SeatState) (x : Session) → s.role ≡ session x → IsShown moments k s → Runs moments k s
+pub still_runs : (moments : List ℕ) (k : SessionOutput) (s : SeatState) (x : Session) → s.role ≡ session x → IsShown moments k s → Runs moments k s
 still_runs moments k s x role h = ⊎_elim (λ (r : Runs moments k s). r) (λ (o : IsOver moments k s). absurd (not_idle s.role x role o.rests)) h
 
 -- ---- a visit waits for a full block, where none is full and a digest is issued wherever a block is closed

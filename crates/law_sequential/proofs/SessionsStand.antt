@@ -1,5 +1,5 @@
 -- How a course by its sessions goes on, and that it ends.
-use Rattle.std.proofs.Common.{◌≡◌, ◌⊎◌, ◌<◌, ◌≤◌, ◌^◌, ℕ, zero, suc, List, [], ◌∷◌, ◌++◌, map, slice_set, refl, sym, ap, ap₂, subst, ◌∙◌, inl, inr, ⊎_elim}
+use Rattle.std.proofs.Common.{◌≡◌, ◌<◌, ◌≤◌, ◌^◌, ℕ, zero, suc, List, [], ◌∷◌, ◌++◌, map, slice_set, refl, sym, ap, ap₂, subst, ◌∙◌, inl, inr, ⊎_elim}
 use mathlib.Core.Option.{some, none, some-injective}
 use lib.ListN.{get_elem?}
 use Rattle.spec_model.specs.Limits.{max_block}
@@ -34,24 +34,24 @@ shown_at moments (k ∷ ks) [] h j s e = absurd h
 shown_at moments (k ∷ ks) (t ∷ ts) h zero s e = record { k = k; there = refl; is = subst (IsShown moments k) (some-injective t s e) h.0 }
 shown_at moments (k ∷ ks) (t ∷ ts) h (suc j) s e = let r = shown_at moments ks ts h.1 j s e in record { k = r.k; there = r.there; is = r.is }
 
-shown_set : (moments : List ℕ) (told : List SessionOutput) (states : List SeatState) → EachShown moments told states → (j : ℕ) (k : SessionOutput) (t : SeatState) → IsShown moments k t → EachShown moments (slice_set told j k) (slice_set states j t)
+pub shown_set : (moments : List ℕ) (told : List SessionOutput) (states : List SeatState) → EachShown moments told states → (j : ℕ) (k : SessionOutput) (t : SeatState) → IsShown moments k t → EachShown moments (slice_set told j k) (slice_set states j t)
 shown_set moments [] [] h j k t is = tt
 shown_set moments [] (u ∷ us) h j k t is = absurd h
 shown_set moments (l ∷ ls) [] h j k t is = absurd h
 shown_set moments (l ∷ ls) (u ∷ us) h zero k t is = (is, h.1)
 shown_set moments (l ∷ ls) (u ∷ us) h (suc j) k t is = (h.0, shown_set moments ls us h.1 j k t is)
 
-shown_last : (moments : List ℕ) (told : List SessionOutput) (states : List SeatState) → EachShown moments told states → (k : SessionOutput) (t : SeatState) → IsShown moments k t → EachShown moments (told ++ k ∷ []) (states ++ t ∷ [])
+pub shown_last : (moments : List ℕ) (told : List SessionOutput) (states : List SeatState) → EachShown moments told states → (k : SessionOutput) (t : SeatState) → IsShown moments k t → EachShown moments (told ++ k ∷ []) (states ++ t ∷ [])
 shown_last moments [] [] h k t is = (is, tt)
 shown_last moments [] (u ∷ us) h k t is = absurd h
 shown_last moments (l ∷ ls) [] h k t is = absurd h
 shown_last moments (l ∷ ls) (u ∷ us) h k t is = (h.0, shown_last moments ls us h.1 k t is)
 
-names_last : (told : List SessionOutput) (k : SessionOutput) → names_told (told ++ k ∷ []) ≡ names_told told ++ k.transcript.session ∷ []
+pub names_last : (told : List SessionOutput) (k : SessionOutput) → names_told (told ++ k ∷ []) ≡ names_told told ++ k.transcript.session ∷ []
 names_last [] k = refl
 names_last (l ∷ ls) k = ap (λ (ns : List Text). l.transcript.session ∷ ns) (names_last ls k)
 
-names_set : (told : List SessionOutput) (j : ℕ) (l k : SessionOutput) → get_elem? told j ≡ some l → k.transcript.session ≡ l.transcript.session → names_told (slice_set told j k) ≡ names_told told
+pub names_set : (told : List SessionOutput) (j : ℕ) (l k : SessionOutput) → get_elem? told j ≡ some l → k.transcript.session ≡ l.transcript.session → names_told (slice_set told j k) ≡ names_told told
 names_set [] j l k e same = refl
 names_set (m ∷ ms) zero l k e same = ap (λ (n : Text). n ∷ names_told ms) (same ∙ ap (λ (z : SessionOutput). z.transcript.session) (sym (some-injective m l e)))
 names_set (m ∷ ms) (suc j) l k e same = ap (λ (ns : List Text). m.transcript.session ∷ ns) (names_set ms j l k e same)
@@ -71,7 +71,7 @@ shown_later moments later k s h = ⊎_elim
     (λ (r : Runs moments k s). inl (record { x = r.x; role = r.role; transcript = r.transcript; images = r.images; in_time = all_left r.x.moments moments later r.in_time; first = r.first }))
     (λ (r : IsOver moments k s). inr (record { written = r.written; wrote = r.wrote; transcript = r.transcript; images = r.images; in_time = all_left r.written.moments moments later r.in_time; rests = r.rests })) h
 
-each_later : (moments later : List ℕ) (told : List SessionOutput) (states : List SeatState) → EachShown moments told states → EachShown (moments ++ later) told states
+pub each_later : (moments later : List ℕ) (told : List SessionOutput) (states : List SeatState) → EachShown moments told states → EachShown (moments ++ later) told states
 each_later moments later [] [] h = tt
 each_later moments later [] (s ∷ ss) h = absurd h
 each_later moments later (k ∷ ks) [] h = absurd h
@@ -83,7 +83,7 @@ pub inactive_except : (parent : SeatState) (states : List SeatState) (j : ℕ) �
 inactive_except parent states j rests others zero s ne e = subst IsInactive (sym rests ∙ ap (λ (u : SeatState). u.role) (some-injective parent s e)) tt
 inactive_except parent states j rests others (suc k) s ne e = others k s (λ same. ne (ap suc same)) e
 
-quiet_all : (parent : SeatState) (states : List SeatState) → parent.role ≡ idle → ((k : ℕ) (s : SeatState) → get_elem? states k ≡ some s → IsInactive s.role) → (k : ℕ) (s : SeatState) → get_elem? (parent ∷ states) k ≡ some s → IsInactive s.role
+pub quiet_all : (parent : SeatState) (states : List SeatState) → parent.role ≡ idle → ((k : ℕ) (s : SeatState) → get_elem? states k ≡ some s → IsInactive s.role) → (k : ℕ) (s : SeatState) → get_elem? (parent ∷ states) k ≡ some s → IsInactive s.role
 quiet_all parent states rests all zero s e = subst IsInactive (sym rests ∙ ap (λ (u : SeatState). u.role) (some-injective parent s e)) tt
 quiet_all parent states rests all (suc k) s e = all k s e
 
@@ -137,20 +137,20 @@ sessions_may_end c = record { parent = c.parent; present = c.present; rests = c.
 -- ---- the end
 
 -- what all wrote
-record AllWrote (moments : List ℕ) (told : List SessionOutput) (states : List SeatState) : Type 0 where
-  written : List Written
-  each : WroteEach states written
-  transcripts : transcripts_in written ≡ map (λ k. k.transcript) told
-  kept : map (λ w. w.images) written ≡ map (λ k. k.images) told
-  in_time : Each (λ w. Each (λ time. In time moments) w.moments) written
+pub record AllWrote (moments : List ℕ) (told : List SessionOutput) (states : List SeatState) : Type 0 where
+  pub written : List Written
+  pub each : WroteEach states written
+  pub transcripts : transcripts_in written ≡ map (λ k. k.transcript) told
+  pub kept : map (λ w. w.images) written ≡ map (λ k. k.images) told
+  pub in_time : Each (λ w. Each (λ time. In time moments) w.moments) written
 
-idle_rests : (r : Role) → r ≡ idle → IsAtRest r
+pub idle_rests : (r : Role) → r ≡ idle → IsAtRest r
 idle_rests r e = subst IsAtRest (sym e) tt
 
 not_running : (s : SeatState) (x : Session) → s.role ≡ session x → IsAtRest s.role → ⊥
 not_running s x e h = subst IsAtRest e h
 
-all_wrote : (moments : List ℕ) (told : List SessionOutput) (states : List SeatState) → EachShown moments told states → Each (λ s. IsAtRest s.role) states → AllWrote moments told states
+pub all_wrote : (moments : List ℕ) (told : List SessionOutput) (states : List SeatState) → EachShown moments told states → Each (λ s. IsAtRest s.role) states → AllWrote moments told states
 all_wrote moments [] [] h rest = record { written = []; each = tt; transcripts = refl; kept = refl; in_time = tt }
 all_wrote moments [] (s ∷ ss) h rest = absurd h
 all_wrote moments (k ∷ ks) [] h rest = absurd h

@@ -2,6 +2,10 @@ pub mod SequentialRun
 pub mod EndsLast
 pub mod InStep
 pub mod Outcome
+pub mod OutcomeBehind
+pub mod RunBehind
+pub mod RunStart
 pub mod Sessions
+pub mod SessionsBehind
 pub mod SessionOutput
 pub mod Wrote

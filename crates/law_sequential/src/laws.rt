@@ -41,6 +41,11 @@ ghost use Rattle.law_sequential.specs.Outcome.{Outcome, IsClosedThere};
 ghost use Rattle.law_sequential.specs.SessionOutput.{HasEnded, RunAgrees};
 ghost use Rattle.law_sequential.specs.Wrote.{Wrote, transcripts_in};
 
+use law_behind::without_a_past_nothing_else_is_meant;
+use law_continued::a_server_starts;
+use law_going_on::transcripts_agree_behind_the_past;
+use law_moments::new_items_have_moments_of_seats;
+
 /// With the first cells and the first seat a course begins, in which nothing has happened.
 pub fn sequential_runs_begin()
     ensures { (v : Server) (database : Text) (size : ℕ) → 1 ≤ size → size ≤ max_block
@@ -138,7 +143,11 @@ pub fn sequential_runs_reach_their_outcome()
         → map (λ x. x.session) (transcripts_in written) ≡ names → NamesApart names
         → pending_in c.ledger < size
         → Outcome v database size names lines written c.ledger }
-{}
+{
+    a_server_starts();
+    transcripts_agree_behind_the_past();
+    without_a_past_nothing_else_is_meant();
+}
 
 /// So what has ended on each server that reads and hashes so agrees by every meaning that statements have.
 pub fn ended_sequential_runs_agree()
@@ -149,7 +158,11 @@ pub fn ended_sequential_runs_agree()
         → ((v : Server) → Serves h reads v
         → HasEnded v database size names lines moments X images J G)
         → RunAgrees h reads database size names lines X images J G }
-{}
+{
+    a_server_starts();
+    transcripts_agree_behind_the_past();
+    without_a_past_nothing_else_is_meant();
+}
 
 /// Its journal is a legal one, where names and moments have their forms.
 pub fn journals_of_sequential_runs_are_legal()
@@ -161,7 +174,9 @@ pub fn journals_of_sequential_runs_are_legal()
         → Each (λ name. is_session_name name ≡ true) names
         → Each (λ time. is_moment time ≡ true) moments
         → IsLegalJournal v.reads (record { version = JOURNAL_VERSION; database = database; items = J }) }
-{}
+{
+    a_server_starts();
+}
 
 /// Each time in its journal, and each moment at which a digest was made, is one of the moments of its
 /// sessions.
@@ -171,7 +186,10 @@ pub fn times_are_those_of_sessions()
         (J : List JournalItem) (G : List Digest)
         → HasEnded v database size names lines moments X images J G
         → Each (λ time. In time moments) (times J) × Each (λ d. In d.made moments) G }
-{}
+{
+    a_server_starts();
+    new_items_have_moments_of_seats();
+}
 
 /// In step order, a digest that comes before an image, in whatever session, is of a block that is closed in
 /// the image.

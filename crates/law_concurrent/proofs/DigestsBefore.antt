@@ -17,7 +17,9 @@ use Rattle.spec_history.specs.Transcripts.{Transcript}
 use Rattle.spec_history.proofs.Refused.{each_left}
 use Rattle.spec_history.proofs.Trace.{each_append}
 use Rattle.spec_ledger.specs.Ledger.{block_hash}
-use Rattle.law_order.specs.OneOrder.{SessionFact, AreInOneOrder, facts_in_order, facts_of_session}
+use Rattle.law_order.specs.OneOrder.{SessionFact, facts_in_order, facts_of_session}
+use Rattle.law_behind.specs.OrderBehind.{AreInOneOrderBehind}
+use Rattle.law_behind.specs.Past.{Past}
 use Rattle.law_protocol_steps.proofs.AfterSet.{all_at, each_at}
 use Rattle.law_kept_images.specs.Held.{IsHeld}
 use Rattle.law_concurrent.specs.InOrder.{digest_shown, digests_shown}
@@ -44,7 +46,7 @@ named_there [] name h = absurd h
 named_there (x ∷ X) name (inl e) = record { i = 0; x = x; there = refl; is = e }
 named_there (x ∷ X) name (inr h) = let r = named_there X name h in record { i = suc r.i; x = r.x; there = r.there; is = r.is }
 
-module _ (q : Meaning) (setup : Option ℕ) (X : List Transcript) (J : List JournalItem) (order : List SessionFact) (is : AreInOneOrder q setup X J order) where
+module _ (q : Meaning) (past : Past) (setup : Option ℕ) (X : List Transcript) (J : List JournalItem) (order : List SessionFact) (is : AreInOneOrderBehind q past setup X J order) where
   -- so what holds of all facts of the transcripts holds along it
   pub along : (P : Fact → Type 0) → ((i : ℕ) (x : Transcript) → At X i x → Each P (facts_of q x)) → Each (λ f. P f.1) order
   along P all = all_at (λ (f : SessionFact). P f.1) order

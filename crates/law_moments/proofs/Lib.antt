@@ -1,0 +1,3 @@
+mod AddsAt
+mod Keeps
+pub mod Steps

@@ -1,0 +1,243 @@
+//! How courses behind a past begin, go on and end, and what they come to.
+
+ghost use Rattle.std.specs.Prelude.{◌≡◌, ◌↔◌, ◌≤◌, ◌<◌, ◌^◌, ◌++◌, ℕ, suc, true, List, [], ◌∷◌, map, None, slice_set};
+ghost use Rattle.std.specs.List.{AllByRecursion};
+ghost use mathlib.Core.Option.{some};
+ghost use lib.ListN.{get_elem?};
+ghost use Rattle.base_types.specs.DatabaseName.{is_database_name};
+ghost use Rattle.base_types.specs.Moment.{is_moment};
+ghost use Rattle.base_types.specs.SessionName.{is_session_name};
+ghost use Rattle.sql_types.specs.declared.journal.TheConstants.{JOURNAL_VERSION};
+ghost use Rattle.sql_types.specs.declared.digest.Digest.{Digest};
+ghost use Rattle.sql_types.specs.declared.journal.JournalItem.{JournalItem};
+ghost use Rattle.sql_types.specs.JournalRules.{ItemRules};
+ghost use Rattle.spec_model.specs.Journals as journals;
+ghost use Rattle.spec_model.specs.LegalJournals.{IsLegalJournal};
+ghost use Rattle.spec_model.specs.Limits.{max_block};
+ghost use Rattle.spec_model.specs.Script.{Reading};
+ghost use Rattle.spec_history.specs.Facts.{Fact, image};
+ghost use Rattle.spec_history.specs.Inputs.{InputLine};
+ghost use Rattle.spec_history.specs.Journals.{times};
+ghost use Rattle.spec_history.specs.Lists.{Text, Each, In};
+ghost use Rattle.spec_history.specs.Meaning.{Meaning};
+ghost use Rattle.spec_history.specs.Serial.{IsLegal};
+ghost use Rattle.spec_history.specs.StepOrder.{Row, rows_facts};
+ghost use Rattle.spec_history.specs.Transcripts.{Transcript};
+ghost use Rattle.spec_protocol.specs.Alone.{Alones, new_session};
+ghost use Rattle.spec_protocol.specs.Cells.{Cell, Ledger, LedgerCell, first_cells, ledger_at, pending_in};
+ghost use Rattle.spec_protocol.specs.AnonymousActs.{did, alones_acts, may_anonymous_acts, step_anonymous_acts};
+ghost use Rattle.spec_protocol.specs.Follows.{alones_lines, may_lines, names_begun, step_lines};
+ghost use Rattle.spec_protocol.specs.LedgerVisits.{Closes};
+ghost use Rattle.spec_protocol.specs.AllowedVisit.{AllowedVisit, OutsAreIn, first_seat};
+ghost use Rattle.spec_protocol.specs.Moves.{sits};
+ghost use Rattle.spec_protocol.specs.OneByOne.{IsOneAlone};
+ghost use Rattle.spec_protocol.specs.InactiveExcept.{IsInactive, InactiveExcept};
+ghost use Rattle.spec_protocol.specs.LedgerIsLegal.{FitsBlock};
+ghost use Rattle.spec_protocol.specs.Reordered.{NamesApart};
+ghost use Rattle.spec_protocol.specs.Seats.{KeptImage, SeatState, Written, split};
+ghost use Rattle.spec_protocol.specs.Server.{Server};
+ghost use Rattle.spec_protocol.specs.Steps.{Step};
+ghost use Rattle.spec_protocol.specs.Serves.{Serves};
+ghost use Rattle.law_behind.specs.OrderBehind.{IsStepOrderBehind};
+ghost use Rattle.law_behind.specs.Past.{Past, no_past, since, unclosed};
+ghost use Rattle.law_retold.specs.Retold.{AreWords, CanBeRetold, Words, past_of};
+ghost use Rattle.law_continued.specs.Continued.{continued_cells};
+ghost use Rattle.law_sequential.specs.RunStart.{RunStart};
+ghost use Rattle.law_sequential.specs.SequentialRun.{StaysInside};
+ghost use Rattle.law_sequential.specs.RunBehind.{SequentialRunBehind};
+ghost use Rattle.law_sequential.specs.EndsLast.{Phase, running, ending, InPhase};
+ghost use Rattle.law_sequential.specs.InStep.{InStep, due_in, Waits};
+ghost use Rattle.law_sequential.specs.Outcome.{IsClosedThere};
+ghost use Rattle.law_sequential.specs.OutcomeBehind.{OutcomeBehind, HasEndedBehind, RunAgreesBehind};
+ghost use Rattle.law_sequential.specs.SessionOutput.{RunAgrees};
+ghost use Rattle.law_sequential.specs.Wrote.{Wrote, transcripts_in};
+
+use law_behind::without_a_past_nothing_else_is_meant;
+use law_continued::{a_journal_that_goes_on_keeps_its_forms, a_server_starts};
+use law_going_on::transcripts_agree_behind_the_past;
+use law_moments::new_items_have_moments_of_seats;
+
+/// A run begins behind the past that a legal journal is, if its transactions can be told again, if in its blocks are
+/// no more entries than a block takes, if fewer are in none, and if it keeps the side rules of its items: with the
+/// cells to which the journal leads. And it begins behind no past, with the first cells.
+pub fn runs_begin()
+    ensures with_a_journal { (v : Server) (c : Words) (database : Text) (size : ℕ) → 1 ≤ size → size ≤ max_block
+        → (J : List JournalItem) (count : ℕ) → (1 ≤ count → AreWords v.reads c) → journals.IsLegal v.reads J
+        → Each (CanBeRetold v.reads count) J → Each (FitsBlock size) J → unclosed J < size
+        → AllByRecursion ItemRules J → is_session_name c.name ≡ true
+        → is_database_name database ≡ true → suc count ≤ 2 ^ 63
+        → (s : RunStart v database size (past_of J count))
+        × (s.begins.cells ≡ continued_cells v database size J count) }
+    ensures with_none { (v : Server) (database : Text) (size : ℕ) → 1 ≤ size → size ≤ max_block
+        → (s : RunStart v database size no_past) × (s.begins.cells ≡ first_cells database size) }
+{
+    a_server_starts();
+    a_journal_that_goes_on_keeps_its_forms();
+}
+
+/// With the cells of the start and the first seat a course begins, in which nothing has happened.
+pub fn runs_behind_a_past_begin()
+    ensures { (v : Server) (database : Text) (size : ℕ) (past : Past) (start : RunStart v database size past)
+        → SequentialRunBehind start running [] [] start.begins.cells (first_seat start.begins.cells ∷ []) }
+{}
+
+/// A course goes on with each step that one seat takes while all others are between statements, where nothing
+/// is done that the phase has no place for and blocks are closed in step: with what a seat does alone, which
+/// closes none, and with its visits, where a block is closed by itself only if one is full, and a commit, a
+/// digest and an image come only if none is.
+pub fn runs_behind_a_past_go_on()
+    ensures any { (v : Server) (database : Text) (size : ℕ) (past : Past) (start : RunStart v database size past)
+        (phase : Phase) (names : List Text)
+        (lines : List InputLine) (cells then_cells : List Cell) (seats then_seats : List SeatState)
+        → (c : SequentialRunBehind start phase names lines cells seats)
+        → (step : Step v cells seats then_cells then_seats) → IsOneAlone step
+        → Each (InPhase phase) (step_anonymous_acts step)
+        → (l : LedgerCell) → get_elem? then_cells ledger_at ≡ some (Ledger l)
+        → InStep size (due_in size c.ledger) (step_anonymous_acts step) (due_in size l)
+        → SequentialRunBehind start phase (names ++ names_begun (step_anonymous_acts step)) (lines ++ step_lines step)
+        then_cells then_seats }
+    ensures alone { (v : Server) (database : Text) (size : ℕ) (past : Past) (start : RunStart v database size past)
+        (phase : Phase) (names : List Text)
+        (lines : List InputLine) (cells : List Cell) (seats : List SeatState)
+        → SequentialRunBehind start phase names lines cells seats
+        → (j : ℕ) (s t : SeatState) → get_elem? seats j ≡ some s → InactiveExcept seats j
+        → (steps : Alones v s t) → Each (InPhase phase) (map did (alones_acts steps))
+        → SequentialRunBehind start phase (names ++ names_begun (map did (alones_acts steps)))
+        (lines ++ alones_lines steps) cells (slice_set seats j t) }
+    ensures visits { (v : Server) (database : Text) (size : ℕ) (past : Past) (start : RunStart v database size past)
+        (phase : Phase) (names : List Text)
+        (lines : List InputLine) (cells : List Cell) (seats : List SeatState)
+        → (c : SequentialRunBehind start phase names lines cells seats)
+        → (j : ℕ) (s : SeatState) → get_elem? seats j ≡ some s → InactiveExcept seats j
+        → (out : List (ℕ × Cell)) → OutsAreIn cells out
+        → (i : ℕ) (d : Cell) (t : SeatState) → (m : AllowedVisit v s out i d t)
+        → Each (InPhase phase) (may_anonymous_acts m) → Waits size c.ledger m.visit
+        → SequentialRunBehind start phase (names ++ names_begun (may_anonymous_acts m)) (lines ++ may_lines m)
+        (slice_set cells i d) (slice_set seats j t) }
+    ensures inside { (v : Server) (database : Text) (size : ℕ) (past : Past) (start : RunStart v database size past)
+        (phase : Phase) (names : List Text)
+        (lines : List InputLine) (cells : List Cell) (seats : List SeatState)
+        → (c : SequentialRunBehind start phase names lines cells seats)
+        → (j : ℕ) (s : SeatState) → get_elem? seats j ≡ some s → InactiveExcept seats j
+        → (out : List (ℕ × Cell)) → OutsAreIn cells out
+        → (i : ℕ) (d : Cell) (t : SeatState) → (m : AllowedVisit v s out i d t)
+        → StaysInside m → Waits size c.ledger m.visit
+        → SequentialRunBehind start phase names lines (slice_set cells i d) (slice_set seats j t) }
+{}
+
+/// It goes on with a session that begins at a seat of its own, split from the first one, while all are
+/// between statements.
+pub fn sessions_begin_behind_a_past()
+    ensures { (v : Server) (database : Text) (size : ℕ) (past : Past) (start : RunStart v database size past)
+        (phase : Phase) (names : List Text)
+        (lines : List InputLine) (cells : List Cell) (seats : List SeatState)
+        → SequentialRunBehind start phase names lines cells seats
+        → (parent : SeatState) → get_elem? seats 0 ≡ some parent → parent.present ≡ true
+        → ((k : ℕ) (s : SeatState) → get_elem? seats k ≡ some s → IsInactive s.role) → (name : Text)
+        → SequentialRunBehind start phase (names ++ name ∷ []) lines cells
+        (seats ++ sits (split parent 1) (new_session name (split parent 1)) ∷ []) }
+{}
+
+/// It goes on with the closing of a full block, whatever seat makes it.
+pub fn full_blocks_are_closed_behind_a_past()
+    ensures { (v : Server) (database : Text) (size : ℕ) (past : Past) (start : RunStart v database size past)
+        (phase : Phase) (names : List Text)
+        (lines : List InputLine) (cells : List Cell) (seats : List SeatState)
+        → SequentialRunBehind start phase names lines cells seats
+        → (j : ℕ) (s : SeatState) → get_elem? seats j ≡ some s → InactiveExcept seats j
+        → (l : LedgerCell) → get_elem? cells ledger_at ≡ some (Ledger l) → pending_in l ≡ size
+        → (k : ℕ) (d : LedgerCell) → Closes v k l d
+        → SequentialRunBehind start phase names lines (slice_set cells ledger_at (Ledger d)) seats }
+{}
+
+/// Behind the last statement sessions may end.
+pub fn sessions_end_behind_a_past()
+    ensures { (v : Server) (database : Text) (size : ℕ) (past : Past) (start : RunStart v database size past)
+        (names : List Text) (lines : List InputLine) (cells : List Cell) (seats : List SeatState)
+        → SequentialRunBehind start running names lines cells seats
+        → SequentialRunBehind start ending names lines cells seats }
+{}
+
+/// Once all sessions are over, the transcripts that the seats wrote agree behind the past with the ledger's cell, as
+/// the transcripts of the sessions and lines of this course; they keep the order of the lines; and the images are
+/// those that they show.
+pub fn runs_behind_a_past_reach_their_outcome()
+    ensures { (v : Server) (database : Text) (size : ℕ) (past : Past) (start : RunStart v database size past)
+        (phase : Phase) (names : List Text)
+        (lines : List InputLine) (cells : List Cell) (seats : List SeatState)
+        → (c : SequentialRunBehind start phase names lines cells seats)
+        → (written : List Written) → Wrote seats written
+        → map (λ x. x.session) (transcripts_in written) ≡ names → NamesApart names
+        → pending_in c.ledger < size
+        → OutcomeBehind v database size past names lines written c.ledger }
+{
+    transcripts_agree_behind_the_past();
+}
+
+/// So what has ended on each server that reads and hashes so agrees behind the past by every meaning that statements
+/// have. Where nothing came before, it agrees as without a past.
+pub fn ended_runs_behind_a_past_agree()
+    ensures behind { (h : List ℕ → List ℕ) (reads : Reading) (database : Text) (size : ℕ) (past : Past)
+        (names : List Text) (lines : List InputLine) (moments : List ℕ) (X : List Transcript)
+        (images : List (List KeptImage)) (J : List JournalItem) (G : List Digest)
+        → map (λ x. x.session) X ≡ names → NamesApart names
+        → ((v : Server) → Serves h reads v
+        → HasEndedBehind v database size past names lines moments X images J G)
+        → RunAgreesBehind h reads database size past names lines X images J G }
+    ensures first { (h : List ℕ → List ℕ) (reads : Reading) (database : Text) (size : ℕ)
+        (names : List Text) (lines : List InputLine) (moments : List ℕ) (X : List Transcript)
+        (images : List (List KeptImage)) (J : List JournalItem) (G : List Digest)
+        → map (λ x. x.session) X ≡ names → NamesApart names
+        → ((v : Server) → Serves h reads v
+        → HasEndedBehind v database size no_past names lines moments X images J G)
+        → RunAgrees h reads database size names lines X images J G }
+{
+    transcripts_agree_behind_the_past();
+    without_a_past_nothing_else_is_meant();
+}
+
+/// What agrees behind no past agrees as without one, and the other way round.
+pub fn runs_behind_no_past_agree()
+    ensures { (h : List ℕ → List ℕ) (reads : Reading) (database : Text) (size : ℕ)
+        (names : List Text) (lines : List InputLine) (X : List Transcript) (images : List (List KeptImage))
+        (J : List JournalItem) (G : List Digest)
+        → RunAgreesBehind h reads database size no_past names lines X images J G
+        ↔ RunAgrees h reads database size names lines X images J G }
+{
+    without_a_past_nothing_else_is_meant();
+}
+
+/// Its journal is a legal one, where names and moments have their forms.
+pub fn journals_of_runs_behind_a_past_are_legal()
+    ensures { (v : Server) (database : Text) (size : ℕ) (past : Past) (names : List Text)
+        (lines : List InputLine) (moments : List ℕ) (X : List Transcript) (images : List (List KeptImage))
+        (J : List JournalItem) (G : List Digest)
+        → HasEndedBehind v database size past names lines moments X images J G
+        → map (λ x. x.session) X ≡ names → is_database_name database ≡ true
+        → Each (λ name. is_session_name name ≡ true) names
+        → Each (λ time. is_moment time ≡ true) moments
+        → IsLegalJournal v.reads (record { version = JOURNAL_VERSION; database = database; items = J }) }
+{}
+
+/// Each time that is new in its journal, and each moment at which a digest was made, is one of the moments of its
+/// sessions.
+pub fn times_behind_a_past_are_those_of_sessions()
+    ensures { (v : Server) (database : Text) (size : ℕ) (past : Past) (names : List Text)
+        (lines : List InputLine) (moments : List ℕ) (X : List Transcript) (images : List (List KeptImage))
+        (J : List JournalItem) (G : List Digest)
+        → HasEndedBehind v database size past names lines moments X images J G
+        → Each (λ time. In time moments) (times (since past J)) × Each (λ d. In d.made moments) G }
+{
+    new_items_have_moments_of_seats();
+}
+
+/// In step order behind a past, a digest that comes before an image, in whatever session, is of a block that is closed
+/// in the image.
+pub fn digests_behind_a_past_are_closed_in_later_images()
+    ensures { (q : Meaning) (N : ℕ) (past : Past) (lines : List InputLine) (X : List Transcript)
+        (J : List JournalItem) (rows : List Row) → IsLegal q J → J ≡ past.items ++ since past J
+        → IsStepOrderBehind q N past lines X J rows
+        → (before after : List Fact) (items : ℕ)
+        → rows_facts q (λ s. None) rows ≡ before ++ image items ∷ after
+        → Each (IsClosedThere J items) before }
+{}
