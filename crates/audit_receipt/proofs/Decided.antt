@@ -27,7 +27,7 @@ turned a f g x = ((λ e. f (x.0 e)), λ q. x.1 (g q))
 numbers : (x y : ℕ) → Decides (x == y) (x ≡ y)
 numbers x y = (eqb-true x y, eq-eqb x y)
 
-strings : (x y : List ℕ) → Decides (bytes_eq x y) (x ≡ y)
+pub strings : (x y : List ℕ) → Decides (bytes_eq x y) (x ≡ y)
 strings x y = ((bytes_eq-Decides x y).0, (bytes_eq-Decides x y).1)
 
 -- what a record keeps
@@ -69,7 +69,7 @@ module _ (h : List ℕ → List ℕ) where
   chain : (n : ℕ) (rs : List BlockRecord) → Decides (are_linked h None n rs) (AreLinked h n rs)
   chain n rs = turned (are_linked h None n rs) (to_linked None n rs) (of_linked None n rs (λ r more e. tt)) (linked None n rs)
 
-  led : (from : ℕ) (rs : List BlockRecord) (d : HeldDigest) → Decides (lead_to h from rs d) (LeadTo h from rs d)
+  pub led : (from : ℕ) (rs : List BlockRecord) (d : HeldDigest) → Decides (lead_to h from rs d) (LeadTo h from rs d)
   led from rs d =
       turned (lead_to h from rs d)
       (λ p. record { linked = p.1.0; reach = p.0; hash = p.1.1 })

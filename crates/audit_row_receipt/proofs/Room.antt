@@ -2,23 +2,11 @@
 use Rattle.std.proofs.Common.{◌≡◌, ◌<◌, ◌^◌, ◌+◌, ◌*◌, ◌≤◌, ℕ, List, [], ◌∷◌, ◌++◌, length, flat_map, Option, Some, None, arith, length-append}
 use Rattle.std.specs.List.{AllByRecursion}
 use Rattle.base_fields.specs.Fields.{u8_field, u16_field, u32_field, u64_field, long_field}
-use Rattle.base_fields.proofs.Worth.{length-bytes_high_first}
 use Rattle.sql_types.specs.declared.event.Event.{Event}
 use Rattle.sql_types.specs.declared.event.EventField.{EventField}
 use Rattle.format_event.specs.Leaf.{value_bytes, type_bytes, type_code, first_parameter, second_parameter, column_bytes, columns_bytes, start_bytes, head_bytes, event_bytes, without_nulls, IsField, HasLeaf}
 use Rattle.format_event.proofs.Sizes.{value_short}
-
-length_u16 : (n : ℕ) → length (u16_field n) ≡ 2
-unfolding u16_field
-length_u16 n = length-bytes_high_first 2 n
-
-length_u32 : (n : ℕ) → length (u32_field n) ≡ 4
-unfolding u32_field
-length_u32 n = length-bytes_high_first 4 n
-
-length_u64 : (n : ℕ) → length (u64_field n) ≡ 8
-unfolding u64_field
-length_u64 n = length-bytes_high_first 8 n
+use Rattle.format_receipt.proofs.Room.{length_u16, length_u32, length_u64}
 
 column_short : (f : EventField) → IsField f → length (column_bytes f) ≤ 16010
 column_short f is =

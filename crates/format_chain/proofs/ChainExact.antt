@@ -1,30 +1,21 @@
 -- Chains are read exactly as they are written.
-use Rattle.std.proofs.Common.{◌≡◌, ◌<◌, ◌^◌, ℕ, true, List, ◌++◌, length, Some, None, Option, refl, sym, ap, ◌∙◌}
+use Rattle.std.proofs.Common.{◌≡◌, ℕ, true, List, ◌++◌, length, Some, None, Option, refl, sym, ap, ◌∙◌}
 use Rattle.std.specs.Prelude.{IfSome, codes}
-use Rattle.std.specs.List.{AllByRecursion}
 use Rattle.std.proofs.lemmas.Bool.{leb-true, le-leb}
 use Rattle.base_types.specs.DatabaseName.{is_database_name}
-use Rattle.base_fields.specs.Fields.{u8_field, u64_field, short_field}
+use Rattle.base_fields.specs.Fields.{u8_field, short_field}
 use Rattle.base_fields.specs.Forms.{database_at}
-use Rattle.base_fields.specs.Readers.{u64_at, after, both, listed, whole}
+use Rattle.base_fields.specs.Readers.{after, both, whole}
 use Rattle.base_fields.specs.Exact.{IsBytes, Exact}
 use Rattle.base_fields.proofs.FormsExact.{database_exact}
-use Rattle.base_fields.proofs.Written.{u64_exact}
-use Rattle.base_fields.proofs.Parts.{after_exact, both_exact, mapped_exact, where_exact, listed_exact, whole_sound, whole_complete}
-use Rattle.format_entry.specs.Record.{record_bytes, record_at, IsRecord}
-use Rattle.format_entry.proofs.RecordExact.{record_exact}
+use Rattle.base_fields.proofs.Parts.{after_exact, both_exact, mapped_exact, whole_sound, whole_complete}
 use Rattle.sql_types.specs.declared.entry.BlockRecord.{BlockRecord}
 use Rattle.format_receipt.specs.Receipts.{records_bytes}
-use Rattle.format_receipt.specs.ReceiptReading.{are_some, records_at}
-use Rattle.format_receipt.proofs.ReceiptExact.{FitRecords}
+use Rattle.format_receipt.specs.ReceiptReading.{records_at}
+use Rattle.format_receipt.proofs.ReceiptExact.{FitRecords, records_exact}
 use Rattle.format_chain.specs.declared.chain.Chain.{Chain}
 use Rattle.format_chain.specs.Chains.{chain_bytes, IsChain}
 use Rattle.format_chain.specs.ChainReading.{chain_from, chain_at}
-
-pub records_exact : Exact FitRecords records_bytes records_at
-unfolding records_at
-records_exact = where_exact (λ (records : List BlockRecord). (length records < 2 ^ 64) × AllByRecursion IsRecord records) records_bytes are_some (listed u64_at record_at)
-    (listed_exact IsRecord record_bytes record_at record_exact (2 ^ 64) u64_field u64_at u64_exact)
 
 -- ---- the chain
 

@@ -59,48 +59,53 @@ path_exact = where_exact (λ (path : List (List ℕ)). (length path < 256) × Al
 abbrev pub FitRecords : List BlockRecord → Type 0
 FitRecords records = ((length records < 2 ^ 64) × AllByRecursion IsRecord records) × (are_some records ≡ true)
 
-records_exact : Exact FitRecords records_bytes records_at
+pub records_exact : Exact FitRecords records_bytes records_at
 unfolding records_at
 records_exact = where_exact (λ (records : List BlockRecord). (length records < 2 ^ 64) × AllByRecursion IsRecord records) records_bytes are_some (listed u64_at record_at)
     (listed_exact IsRecord record_bytes record_at record_exact (2 ^ 64) u64_field u64_at u64_exact)
 
--- ---- the receipt
+-- ---- all four, behind one another
 
-abbrev Parts : Type 0
+abbrev pub Parts : Type 0
 Parts = List ℕ × (TxEntry × (List (List ℕ) × List BlockRecord))
 
-abbrev parts_of : Receipt → Parts
+abbrev pub parts_of : Receipt → Parts
 parts_of r = (r.database, (r.entry, (r.path, r.records)))
 
-abbrev FitParts : Parts → Type 0
+abbrev pub FitParts : Parts → Type 0
 FitParts x = (is_database_name x.0 ≡ true) × (FitEntry x.1.0 × (FitPath x.1.1.0 × FitRecords x.1.1.1))
 
-abbrev encode_parts : Parts → List ℕ
+abbrev pub encode_parts : Parts → List ℕ
 encode_parts x = short_field x.0 ++ (encode_entry x.1.0 ++ (path_bytes x.1.1.0 ++ records_bytes x.1.1.1))
-
-abbrev encoded : Receipt → List ℕ
-encoded r = codes "LGRC" ++ (u8_field 1 ++ (short_field r.database ++ (long_field (entry_bytes r.entry) ++ (path_bytes r.path ++ records_bytes r.records))))
 
 few_hashes : (path : List (List ℕ)) → length path ≤ max_path → length path < 256
 few_hashes path le = omega (arith, le)
+
+pub parts_fit : (x : Parts) → FitParts x → IsReceipt (receipt_from x)
+parts_fit x f = record { database = f.0; entry = f.1.0.0; few = leb-true (length x.1.1.0) max_path f.1.1.0.1; path = f.1.1.0.0.1; some = leb-true 1 (length x.1.1.1) f.1.1.1.1; count = f.1.1.1.0.0; records = f.1.1.1.0.1 }
+
+pub receipt_fits : (r : Receipt) → IsReceipt r → FitParts (parts_of r)
+receipt_fits r f = (f.database, ((f.entry, entry_room r.entry f.entry), (((few_hashes r.path f.few, f.path), le-leb (length r.path) max_path f.few), ((f.count, f.records), le-leb 1 (length r.records) f.some))))
+
+pub parts_exact : Exact FitParts encode_parts (both database_at (both entry_behind (both path_at records_at)))
+parts_exact = both_exact (λ (d : List ℕ). is_database_name d ≡ true) (λ (x : TxEntry × (List (List ℕ) × List BlockRecord)). FitEntry x.0 × (FitPath x.1.0 × FitRecords x.1.1)) short_field
+    (λ (x : TxEntry × (List (List ℕ) × List BlockRecord)). encode_entry x.0 ++ (path_bytes x.1.0 ++ records_bytes x.1.1)) database_at (both entry_behind (both path_at records_at)) database_exact
+    (both_exact FitEntry (λ (x : List (List ℕ) × List BlockRecord). FitPath x.0 × FitRecords x.1) encode_entry (λ (x : List (List ℕ) × List BlockRecord). path_bytes x.0 ++ records_bytes x.1)
+    entry_behind (both path_at records_at) entry_behind_exact
+    (both_exact FitPath FitRecords path_bytes records_bytes path_at records_at path_exact records_exact))
+
+-- ---- the receipt
+
+abbrev encoded : Receipt → List ℕ
+encoded r = codes "LGRC" ++ (u8_field 1 ++ (short_field r.database ++ (long_field (entry_bytes r.entry) ++ (path_bytes r.path ++ records_bytes r.records))))
 
 receipt_exact : Exact IsReceipt encoded receipt_at
 unfolding receipt_at
 receipt_exact = mapped_exact FitParts IsReceipt (λ (x : Parts). codes "LGRC" ++ (u8_field 1 ++ encode_parts x)) encoded receipt_from parts_of
     (after (codes "LGRC") (after (u8_field 1) (both database_at (both entry_behind (both path_at records_at)))))
-    (record {
-      there = λ r. refl;
-      encoded = λ x. refl;
-      fit = λ x f. record { database = f.0; entry = f.1.0.0; few = leb-true (length x.1.1.0) max_path f.1.1.0.1; path = f.1.1.0.0.1; some = leb-true 1 (length x.1.1.1) f.1.1.1.1; count = f.1.1.1.0.0; records = f.1.1.1.0.1 };
-      fit_back = λ r f. (f.database, ((f.entry, entry_room r.entry f.entry), (((few_hashes r.path f.few, f.path), le-leb (length r.path) max_path f.few), ((f.count, f.records), le-leb 1 (length r.records) f.some))));
-    })
+    (record { there = λ r. refl; encoded = λ x. refl; fit = parts_fit; fit_back = receipt_fits })
     (after_exact (codes "LGRC") FitParts (λ (x : Parts). u8_field 1 ++ encode_parts x) (after (u8_field 1) (both database_at (both entry_behind (both path_at records_at))))
-    (after_exact (u8_field 1) FitParts encode_parts (both database_at (both entry_behind (both path_at records_at)))
-    (both_exact (λ (d : List ℕ). is_database_name d ≡ true) (λ (x : TxEntry × (List (List ℕ) × List BlockRecord)). FitEntry x.0 × (FitPath x.1.0 × FitRecords x.1.1)) short_field
-    (λ (x : TxEntry × (List (List ℕ) × List BlockRecord)). encode_entry x.0 ++ (path_bytes x.1.0 ++ records_bytes x.1.1)) database_at (both entry_behind (both path_at records_at)) database_exact
-    (both_exact FitEntry (λ (x : List (List ℕ) × List BlockRecord). FitPath x.0 × FitRecords x.1) encode_entry (λ (x : List (List ℕ) × List BlockRecord). path_bytes x.0 ++ records_bytes x.1)
-    entry_behind (both path_at records_at) entry_behind_exact
-    (both_exact FitPath FitRecords path_bytes records_bytes path_at records_at path_exact records_exact)))))
+    (after_exact (u8_field 1) FitParts encode_parts (both database_at (both entry_behind (both path_at records_at))) parts_exact))
 
 -- ---- the bytes
 

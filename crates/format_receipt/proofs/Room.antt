@@ -7,15 +7,15 @@ use Rattle.base_fields.proofs.Worth.{length-bytes_high_first}
 use Rattle.sql_types.specs.declared.entry.TxEntry.{TxEntry}
 use Rattle.format_entry.specs.Entry.{TableRoot, root_bytes, roots_bytes, head_bytes, entry_bytes, IsRoot, IsEntry}
 
-length_u16 : (n : ℕ) → length (u16_field n) ≡ 2
+pub length_u16 : (n : ℕ) → length (u16_field n) ≡ 2
 unfolding u16_field
 length_u16 n = length-bytes_high_first 2 n
 
-length_u32 : (n : ℕ) → length (u32_field n) ≡ 4
+pub length_u32 : (n : ℕ) → length (u32_field n) ≡ 4
 unfolding u32_field
 length_u32 n = length-bytes_high_first 4 n
 
-length_u64 : (n : ℕ) → length (u64_field n) ≡ 8
+pub length_u64 : (n : ℕ) → length (u64_field n) ≡ 8
 unfolding u64_field
 length_u64 n = length-bytes_high_first 8 n
 
