@@ -1,12 +1,43 @@
--- What a receipt that is accepted shows.
-use Rattle.std.proofs.Common.{◌≡◌, ℕ, true, List, length, Option}
+-- What is judged of a receipt, and what one that is accepted shows.
+use Rattle.std.proofs.Common.{◌≡◌, ℕ, Bool, true, List, length, Option, Result, Ok, Err, IfOk, IfErr}
 use Rattle.base_io.specs.Store.{Names}
 use Rattle.sql_types.specs.declared.digest.HeldDigest.{HeldDigest}
 use Rattle.audit_any_receipt.specs.declared.any.AnyReceipt.{AnyReceipt}
 use Rattle.audit_any_receipt.specs.Among.{IsAcceptedBy}
-use Rattle.audit_any_receipt.specs.Kinds.{IsAny}
+use Rattle.audit_any_receipt.specs.Kinds.{IsAny, Spells}
 use Rattle.audit_any_receipt.specs.Shows.{EachImageShows}
-use Rattle.cli_audit.specs.Check.{IsChecked, ShowsClaim}
+use Rattle.cli_audit.specs.declared.status.Status.{Status}
+use Rattle.cli_audit.specs.declared.status.Status.TheVariants.{Done, No, Words, Limit, SourceFault, SinkFault, VaultFault, Missing, Digests, Journal, Form, Memory, NotImage, NoEntry, Receipt, TooFar}
+use Rattle.cli_audit.specs.Check.{IsSoWith, IsCheckedOn, LacksCheck, IsChecked, ShowsClaim}
+use Rattle.cli_audit.specs.Verify.{AreRefused}
+
+-- the receipt of some bytes, and the file of the digests
+module _ (bytes file : List ℕ) (r : AnyReceipt) (spelled : Spells bytes r) where
+  pub judged_on : (h : List ℕ → List ℕ) (result : Result Bool Status) → IfOk result (IsSoWith h r file) → IfOk result (IsCheckedOn h bytes file)
+  judged_on h (Ok so) is = record { r = r; spelled = spelled; held = is.0; read = is.1; is = is.2 }
+  judged_on h (Err status) is = tt
+
+  lacks_digests : (status : Status) → AreRefused status file → LacksCheck status bytes file
+  lacks_digests (Digests index) refused = record { r = r; spelled = spelled; refused = refused }
+  lacks_digests Memory refused = tt
+  lacks_digests Done refused = absurd refused
+  lacks_digests No refused = absurd refused
+  lacks_digests Words refused = absurd refused
+  lacks_digests Limit refused = absurd refused
+  lacks_digests SourceFault refused = absurd refused
+  lacks_digests SinkFault refused = absurd refused
+  lacks_digests VaultFault refused = absurd refused
+  lacks_digests (Missing which) refused = absurd refused
+  lacks_digests (Journal at) refused = absurd refused
+  lacks_digests (Form line) refused = absurd refused
+  lacks_digests NotImage refused = absurd refused
+  lacks_digests NoEntry refused = absurd refused
+  lacks_digests Receipt refused = absurd refused
+  lacks_digests (TooFar entries) refused = absurd refused
+
+  pub lacks_check : (result : Result Bool Status) → IfErr result (λ status. AreRefused status file) → IfErr result (λ status. LacksCheck status bytes file)
+  lacks_check (Ok so) refused = tt
+  lacks_check (Err status) refused = lacks_digests status refused
 
 -- no image contradicts an accepted receipt
 abbrev pub AreNeverContradicted : Type 0

@@ -26,6 +26,10 @@ LacksReceiptForm status.Receipt bytes = SpellsNone bytes
 LacksReceiptForm status.Memory bytes = Unit {0}
 LacksReceiptForm _ bytes = ⊥
 
+-- the file has some digests, and this is so of the receipt among them
+abbrev pub IsSoWith : (List ℕ → List ℕ) → AnyReceipt → List ℕ → Bool → Type 0
+IsSoWith h r file so = (held : List HeldDigest) × IsRead file (Ok held) × IsSoAmong h r held so
+
 -- the bytes are those of a receipt, the file has some digests, and this is so of the two
 pub record IsCheckedOn (h : List ℕ → List ℕ) (bytes file : List ℕ) (so : Bool) : Type 0 where
   pub r : AnyReceipt

@@ -3,13 +3,13 @@
 ghost use Rattle.std.specs.Prelude.{⊤, ◌≡◌, ◌⊎◌, IfOk, IfErr, IfSome};
 ghost use Rattle.base_io.specs.Count.{Rises};
 ghost use Rattle.base_io.specs.History.{Since};
-ghost use Rattle.audit_any_receipt.specs.Kinds.{Spells};
+ghost use Rattle.audit_any_receipt.specs.Kinds.{IsAny, Spells};
 ghost use Rattle.cli_audit.specs.Answer.{Unfailed};
 ghost use Rattle.cli_audit.specs.Calls.{AreGets, AreWrites, Gave};
-ghost use Rattle.cli_audit.specs.Check.{receipt_limit, IsCheckedOn, LacksCheck, IsChecked, LacksAnswer};
+ghost use Rattle.cli_audit.specs.Check.{receipt_limit, IsSoWith, IsCheckedOn, LacksCheck, IsChecked, LacksAnswer};
 ghost use Rattle.cli_audit.specs.Check.{check_text, CheckCause, Checks, ShowsClaim, LacksReceiptForm};
 ghost use Rattle.cli_audit.specs.Evidence.{AreUnder, LacksEither};
-ghost use Rattle.cli_audit.specs.Verify.{SaidOrIdle};
+ghost use Rattle.cli_audit.specs.Verify.{AreRefused, SaidOrIdle};
 
 use crate::Status;
 use crate::names::{DIGESTS_LIMIT, read_name};
@@ -66,17 +66,34 @@ fn receipt_of(alloc: Global, bytes: &[u8]) -> Result<AnyReceipt, Status>
     }
 }
 
+/// Whether a receipt is accepted with the digests of this file.
+fn judge_receipt<H: Hash32>(
+    alloc: Global,
+    h: H,
+    receipt: &AnyReceipt,
+    digests: &[u8],
+) -> Result<bool, Status>
+    requires { IsAny receipt.now }
+    ensures checked { IfOk result (IsSoWith (H.digest h) receipt.now digests.now) }
+    ensures refused { IfErr result (λ status. AreRefused status digests.now) }
+{
+    let held = read_held(alloc, digests)?;
+    match check_any(alloc, h, receipt, held.as_slice()) {
+        Ok(so) => Ok(so),
+        Err(Memory) => Err(Status::Memory),
+    }
+}
+
 /// Whether these bytes are an accepted receipt's, with the digests of this file.
 fn judge<H: Hash32>(alloc: Global, h: H, bytes: &[u8], digests: &[u8]) -> Result<bool, Status>
     ensures checked { IfOk result (IsCheckedOn (H.digest h) bytes.now digests.now) }
     ensures lacks { IfErr result (λ status. LacksCheck status bytes.now digests.now) }
 {
     let receipt = receipt_of(alloc, bytes)?;
-    let held = read_held(alloc, digests)?;
-    match check_any(alloc, h, &receipt, held.as_slice()) {
-        Ok(so) => Ok(so),
-        Err(Memory) => Err(Status::Memory),
-    }
+    let so = judge_receipt(alloc, h, &receipt, digests);
+    // `drop` lets each type go by a function of its own, which is proved once
+    drop(receipt);
+    so
 }
 
 /// Whether an accepted receipt stands under the name, with the digests under the other.

@@ -87,12 +87,22 @@ fn compare<H: Hash32>(
         Ok(image) => image,
         Err(verdict) => return Ok(Finding::Honest(verdict)),
     };
-    let suspect_image = match accepted(alloc, h, suspect, digests)? {
-        Ok(image) => image,
-        Err(verdict) => return Ok(Finding::Suspect(verdict)),
+    // `drop` lets each type go by a function of its own, which is proved once
+    let suspect_image = match accepted(alloc, h, suspect, digests) {
+        Ok(Ok(image)) => image,
+        Ok(Err(verdict)) => {
+            drop(honest_image);
+            return Ok(Finding::Suspect(verdict));
+        }
+        Err(Memory) => {
+            drop(honest_image);
+            return Err(Memory);
+        }
     };
-    let outcome = extract_each(alloc, h, &honest_image, &suspect_image, digests)?;
-    Ok(Finding::Compared(outcome))
+    let outcome = extract_each(alloc, h, &honest_image, &suspect_image, digests);
+    drop(suspect_image);
+    drop(honest_image);
+    Ok(Finding::Compared(outcome?))
 }
 
 /// What is found of these bytes, with the digests of this file.

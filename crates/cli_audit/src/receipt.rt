@@ -42,16 +42,19 @@ pub(crate) enum Shown {
 fn receipt_under<H: Hash32>(
     alloc: Global,
     h: H,
-    image: &Image,
+    image: Image,
     held: &[HeldDigest],
     wanted: Wanted,
 ) -> Result<AnyReceipt, Status>
-    requires image { IsImage image.now }
-    requires accepted { image_verdict (H.digest h) image.now held.now ≡ Verdict.Yes }
-    ensures made { IfOk result (IsReceiptUnder (H.digest h) image.now held.now wanted) }
-    ensures lacks { IfErr result (λ status. LacksUnder status image.now held.now wanted) }
+    requires image { IsImage image }
+    requires accepted { image_verdict (H.digest h) image held.now ≡ Verdict.Yes }
+    ensures made { IfOk result (IsReceiptUnder (H.digest h) image held.now wanted) }
+    ensures lacks { IfErr result (λ status. LacksUnder status image held.now wanted) }
 {
-    match make_any(alloc, h, image, held, wanted) {
+    let made = make_any(alloc, h, &image, held, wanted);
+    // `drop` lets each type go by a function of its own, which is proved once
+    drop(image);
+    match made {
         Ok(receipt) => Ok(receipt),
         Err(ReceiptErr::NoEntry) => Err(Status::NoEntry),
         Err(ReceiptErr::Memory) => Err(Status::Memory),
@@ -72,7 +75,7 @@ fn show<H: Hash32>(
     let held = read_held(alloc, digests)?;
     match accepted(alloc, h, bytes, held.as_slice()) {
         Ok(Ok(image)) => {
-            let receipt = receipt_under(alloc, h, &image, held.as_slice(), wanted)?;
+            let receipt = receipt_under(alloc, h, image, held.as_slice(), wanted)?;
             Ok(Shown::Made(receipt))
         }
         Ok(Err(verdict)) => Ok(Shown::Refused(verdict)),
@@ -239,7 +242,11 @@ pub fn make_receipt<H: Hash32, K: Sink, V: Vault>(
         → (result ≡ Status.SinkFault → ⊥) → sink.new ≡ sink.old }
 {
     match show_names(alloc, h, image, digests, wanted, vault) {
-        Ok(Shown::Made(receipt)) => save_receipt(alloc, save, &receipt, sink, vault),
+        Ok(Shown::Made(receipt)) => {
+            let ended = save_receipt(alloc, save, &receipt, sink, vault);
+            drop(receipt);
+            ended
+        }
         Ok(Shown::Refused(verdict)) => refuse(alloc, &verdict, sink),
         Err(status) => status,
     }

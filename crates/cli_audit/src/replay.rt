@@ -76,7 +76,10 @@ fn image_of_bytes<H: Hash32>(alloc: Global, h: H, bytes: &[u8]) -> Result<Image,
     images_of_legal_journals_verify();
     readings_of_the_grammar_give_written();
     let journal = journal_of(alloc, bytes)?;
-    run_again(alloc, h, &journal)
+    let image = run_again(alloc, h, &journal);
+    // `drop` lets each type go by a function of its own, which is proved once
+    drop(journal);
+    image
 }
 
 /// What a name came to.
@@ -143,16 +146,29 @@ struct Output {
     text: String,
 }
 
-/// What is put and written of a journal that was run again. An image has an entry for each transaction.
+/// What is put and written of a journal with these bytes, which leads to the image. An image has an entry for each
+/// transaction.
+fn output_from(alloc: Global, save: &str, image: &Image, journal: Vec<u8>) -> Result<Output, Memory>
+    requires { IsImage image.now }
+    ensures { IfOk result (λ output. HasOutput save.now journal.items (image_bytes image.now)
+        (length image.now.entries) output.files (string_bytes output.text)) }
+{
+    let text = text_of(alloc, image.entries.len())?;
+    let files = replayed_files(alloc, save, image, journal)?;
+    Ok(Output { files, text })
+}
+
+/// What is put and written of a journal that was run again.
 fn output_of(alloc: Global, save: &str, again: ReplayedJournal) -> Result<Output, Memory>
     requires { IsImage again.image }
     ensures { IfOk result (λ output. HasOutput save.now again.journal.items (image_bytes again.image)
         (length again.image.entries) output.files (string_bytes output.text)) }
 {
     let ReplayedJournal { journal, image } = again;
-    let text = text_of(alloc, image.entries.len())?;
-    let files = replayed_files(alloc, save, &image, journal)?;
-    Ok(Output { files, text })
+    let output = output_from(alloc, save, &image, journal);
+    // `drop` lets each type go by a function of its own, which is proved once
+    drop(image);
+    output
 }
 
 /// Runs the journal under a name again, puts its image and its bytes, and writes how many transactions it has.

@@ -55,11 +55,14 @@ fn image_under<V: Vault>(alloc: Global, name: &str, vault: &mut V) -> Result<Ima
 }
 
 /// The file of the image in the newest version.
-fn files_of(alloc: Global, save: &str, image: &Image) -> Result<Items<File>, Memory>
-    requires { IsImage image.now }
-    ensures { IfOk result (λ files. files ≡ upgraded_files save.now image.now) }
+fn files_of(alloc: Global, save: &str, image: Image) -> Result<Items<File>, Memory>
+    requires { IsImage image }
+    ensures { IfOk result (λ files. files ≡ upgraded_files save.now image) }
 {
-    let bytes = Blob::from_vec(write_image(alloc, image)?);
+    let written = write_image(alloc, &image);
+    // `drop` lets each type go by a function of its own, which is proved once
+    drop(image);
+    let bytes = Blob::from_vec(written?);
     let mut files = Items::new(alloc);
     files.push(image_file(alloc, save, bytes)?)?;
     Ok(files)
@@ -92,7 +95,7 @@ pub fn upgrade_image<K: Sink, V: Vault>(
         Ok(found) => found,
         Err(status) => return status,
     };
-    let Ok(files) = files_of(alloc, save, &found) else {
+    let Ok(files) = files_of(alloc, save, found) else {
         return Status::Memory;
     };
     put_and_write(vault, sink, files.as_slice(), upgraded_line().as_bytes())

@@ -1,3 +1,4 @@
+mod Adding
 mod Facts
 mod Run
 mod End

@@ -85,40 +85,12 @@ fn is_name(form: Form) -> bool {
 }
 
 /// The name of the operand at a place, from 0.
-fn operand_at(which: Subcommand, place: usize) -> Option<&'static str> {
-    match (which, place) {
-        (Subcommand::Verify, 0) => Some("IMAGE"),
-        (Subcommand::Verify, 1) => Some("DIGESTS"),
-        (Subcommand::Extract, 0) => Some("HONEST"),
-        (Subcommand::Extract, 1) => Some("SUSPECT"),
-        (Subcommand::Extract, 2) => Some("DIGESTS"),
-        (Subcommand::Replay, 0) => Some("JOURNAL"),
-        (Subcommand::Upgrade, 0) => Some("IMAGE"),
-        (Subcommand::Gen, 0) => Some("COUNT"),
-        (Subcommand::Receipt, 0) => Some("IMAGE"),
-        (Subcommand::Receipt, 1) => Some("DIGESTS"),
-        (Subcommand::Receipt, 2) => Some("TX"),
-        (Subcommand::Join, 0) => Some("IMAGE"),
-        (Subcommand::Join, 1) => Some("DIGESTS"),
-        (Subcommand::Check, 0) => Some("RECEIPT"),
-        (Subcommand::Check, 1) => Some("DIGESTS"),
-        (Subcommand::AsOf, 0) => Some("IMAGE"),
-        (Subcommand::AsOf, 1) => Some("N"),
-        _ => None,
-    }
+fn operand_at<'a>(which: Subcommand, place: usize) -> Option<&'a str> {
+    which.operands().get(place).copied()
 }
 
 fn has_option(which: Subcommand, name: &str) -> bool {
-    match which {
-        Subcommand::Step | Subcommand::Run => {
-            matches!(name, "save" | "block-size" | "clock" | "database")
-        }
-        Subcommand::Verify => name == "workers",
-        Subcommand::Receipt => matches!(name, "save" | "table" | "event"),
-        Subcommand::Replay | Subcommand::Upgrade | Subcommand::Join => name == "save",
-        Subcommand::AsOf => name == "digests",
-        Subcommand::Extract | Subcommand::Gen | Subcommand::Check => false,
-    }
+    which.options().iter().any(|option| *option == name)
 }
 
 /// Whether the word is the option of this name, with its value or without.

@@ -1,6 +1,6 @@
 // The words that name a command.
-ghost use Rattle.std.specs.Prelude.{◌≡◌};
-ghost use Rattle.cli_words.specs.Subcommands.{named};
+ghost use Rattle.std.specs.Prelude.{◌≡◌, map};
+ghost use Rattle.cli_words.specs.Subcommands.{name_of, operands_of, options_of, named};
 
 /// A word that names a command.
 #[derive(Clone, Copy, Debug, PartialEq, Eq)]
@@ -48,6 +48,56 @@ impl Subcommand {
             "check" => Some(Subcommand::Check),
             "asof" => Some(Subcommand::AsOf),
             _ => None,
+        }
+    }
+
+    /// The word that names it.
+    pub(crate) fn name<'a>(self) -> &'a str
+        ensures { result.now ≡ name_of self }
+    {
+        match self {
+            Subcommand::Step => "step",
+            Subcommand::Run => "run",
+            Subcommand::Verify => "verify",
+            Subcommand::Extract => "extract",
+            Subcommand::Replay => "replay",
+            Subcommand::Upgrade => "upgrade",
+            Subcommand::Gen => "gen",
+            Subcommand::Receipt => "receipt",
+            Subcommand::Join => "join",
+            Subcommand::Check => "check",
+            Subcommand::AsOf => "asof",
+        }
+    }
+
+    /// The names of its operands, in their order.
+    pub(crate) fn operands<'a>(self) -> &'a [&'a str]
+        ensures { map (λ name. name.now) result.now ≡ operands_of self }
+    {
+        match self {
+            Subcommand::Step | Subcommand::Run => &[],
+            Subcommand::Verify | Subcommand::Join => &["IMAGE", "DIGESTS"],
+            Subcommand::Extract => &["HONEST", "SUSPECT", "DIGESTS"],
+            Subcommand::Replay => &["JOURNAL"],
+            Subcommand::Upgrade => &["IMAGE"],
+            Subcommand::Gen => &["COUNT"],
+            Subcommand::Receipt => &["IMAGE", "DIGESTS", "TX"],
+            Subcommand::Check => &["RECEIPT", "DIGESTS"],
+            Subcommand::AsOf => &["IMAGE", "N"],
+        }
+    }
+
+    /// The names of its options, each of which takes a value.
+    pub(crate) fn options<'a>(self) -> &'a [&'a str]
+        ensures { map (λ name. name.now) result.now ≡ options_of self }
+    {
+        match self {
+            Subcommand::Step | Subcommand::Run => &["save", "block-size", "clock", "database"],
+            Subcommand::Verify => &["workers"],
+            Subcommand::Replay | Subcommand::Upgrade | Subcommand::Join => &["save"],
+            Subcommand::Receipt => &["save", "table", "event"],
+            Subcommand::AsOf => &["digests"],
+            Subcommand::Extract | Subcommand::Gen | Subcommand::Check => &[],
         }
     }
 }

@@ -4,12 +4,16 @@
 mod messages;
 
 use crate::messages::{Outside, tell, warn};
-use base_io::{FolderVault, MachineClock, OpenGate, StdinSource, StdoutSink};
+use base_io::{
+    Clock, FolderVault, MachineClock, OpenGate, Sink, Source, StdinSource, StdoutSink, Vault,
+};
 use cli_commands::{Status, ledgerd};
 use cli_report::{WatchedSource, with_progress};
 use std::env::Env;
 use std::io::IsTerminal;
 use std::process::ExitCode;
+use std::sync::Wait;
+use std::thread::Threads;
 use std::{env, io};
 
 // The words after the program's name, or an error where they can't be had.
@@ -52,6 +56,18 @@ fn without_words(rt: &impl Eprint, error: io::Error) -> ExitCode {
     ExitCode::from(status.code())
 }
 
+// The top call, whose promises end here: what is told behind it rests on none of them.
+fn answer<S: Source, K: Sink, V: Vault, C: Clock>(
+    rt: &(impl Threads + Wait + Sync + AllocGlobal),
+    words: &[String],
+    source: &mut S,
+    sink: &mut K,
+    vault: &mut V,
+    clock: &C,
+) -> Status {
+    ledgerd(rt, rt.alloc(), words, source, sink, vault, clock, &OpenGate)
+}
+
 fn main(rt: HostRuntime) -> ExitCode {
     let words = match words(&rt) {
         Ok(words) => words,
@@ -67,18 +83,7 @@ fn main(rt: HostRuntime) -> ExitCode {
     let mut sink = StdoutSink::new(io::writer(&rt));
     let mut vault = FolderVault::new(rt);
     let clock = MachineClock::new(rt);
-    let call = || {
-        ledgerd(
-            &rt,
-            rt.alloc(),
-            words,
-            &mut source,
-            &mut sink,
-            &mut vault,
-            &clock,
-            &OpenGate,
-        )
-    };
+    let call = || answer(&rt, words, &mut source, &mut sink, &mut vault, &clock);
     let status = with_progress(&rt, command, call);
     let outside = Outside {
         bytes: source.watch().bytes(),

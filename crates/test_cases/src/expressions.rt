@@ -111,7 +111,10 @@ fn over_columns(alloc: Global, e: &Expr, table: &TableDef, page: &mut Page) -> R
 
 fn over_table(alloc: Global, e: &Expr, page: &mut Page) -> Result<(), Fault> {
     let table = table_of(alloc, TABLE)?;
-    over_columns(alloc, e, &table, page)
+    let put = over_columns(alloc, e, &table, page);
+    // `drop` lets each type go by a function of its own, which is proved once
+    drop(table);
+    put
 }
 
 fn of_condition(alloc: Global, found: Option<&Stmt>, page: &mut Page) -> Result<(), Fault> {

@@ -109,5 +109,8 @@ fn image_found(
 /// Whether bytes are an image, of which it puts the database, blocks, entries and tables.
 pub fn image(alloc: Global, bytes: &[u8], page: &mut Page) -> Result<bool, Fault> {
     let found = read_image(alloc, bytes)?;
-    image_found(alloc, &found, bytes, page)
+    let is_one = image_found(alloc, &found, bytes, page);
+    // `drop` lets each type go by a function of its own, which is proved once
+    drop(found);
+    is_one
 }

@@ -84,7 +84,11 @@ fn ask(
     page: &mut Page,
 ) -> Result<(), Fault> {
     let requests = requests_of(alloc, words)?;
-    put_answer(&list.ask(tx, &requests), page)
+    let answer = list.ask(tx, &requests);
+    let put = put_answer(&answer, page);
+    // `drop` lets each type go by a function of its own, which is proved once
+    drop(answer);
+    put
 }
 
 fn go_back(list: &mut LockList, holds: u64) -> Result<(), Fault> {

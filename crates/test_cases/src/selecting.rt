@@ -79,7 +79,10 @@ fn over_rows(alloc: Global, q: &Select, columns: &Columns, page: &mut Page) -> R
 
 fn over_table(alloc: Global, q: &Select, page: &mut Page) -> Result<(), Fault> {
     let table = table_of(alloc, TABLE)?;
-    over_rows(alloc, q, &Columns::of(&table, Part::Base), page)
+    let put = over_rows(alloc, q, &Columns::of(&table, Part::Base), page);
+    // `drop` lets each type go by a function of its own, which is proved once
+    drop(table);
+    put
 }
 
 fn of_select(alloc: Global, found: Option<&Stmt>, page: &mut Page) -> Result<(), Fault> {
@@ -133,16 +136,28 @@ fn part_of(name: &str) -> Result<Part, Fault> {
     }
 }
 
-fn over_versions(alloc: Global, q: &Select, page: &mut Page) -> Result<(), Fault> {
-    let part = part_of(q.table.as_str())?;
-    let table = table_of(alloc, WIDER)?;
+fn over_part(
+    alloc: Global,
+    q: &Select,
+    table: &TableDef,
+    part: Part,
+    page: &mut Page,
+) -> Result<(), Fault> {
     let places = key_places(alloc, table.columns.as_slice())?;
-    let keyed = KeyedTable::new(&table, &places);
-    let versions = short_versions(alloc, &table)?;
+    let keyed = KeyedTable::new(table, &places);
+    let versions = short_versions(alloc, table)?;
     put_answer(
         query_rows(alloc, q, &keyed, part, &versions.as_slice()),
         page,
     )
+}
+
+fn over_versions(alloc: Global, q: &Select, page: &mut Page) -> Result<(), Fault> {
+    let part = part_of(q.table.as_str())?;
+    let table = table_of(alloc, WIDER)?;
+    let put = over_part(alloc, q, &table, part, page);
+    drop(table);
+    put
 }
 
 /// The rows that a SELECT shows of versions with fewer values than their table has columns.

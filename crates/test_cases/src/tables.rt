@@ -14,8 +14,19 @@ fn put_columns(columns: &[ColumnDef], copies: &mut Items<ColumnDef>) -> Result<(
     Ok(())
 }
 
-/// A table of this name with no columns.
-fn bare_def(alloc: Global, name: Name, kind: TableKind) -> Result<TableDef, Fault> {
+fn columns_of(alloc: Global, columns: &[ColumnDef]) -> Result<Items<ColumnDef>, Fault> {
+    let mut copies = Items::new(alloc);
+    put_columns(columns, &mut copies)?;
+    Ok(copies)
+}
+
+/// A table of this name with these columns.
+fn def_with(
+    alloc: Global,
+    name: Name,
+    kind: TableKind,
+    columns: Items<ColumnDef>,
+) -> Result<TableDef, Fault> {
     let history = Name::of_str(alloc, "")?;
     let view = Name::of_str(alloc, "")?;
     Ok(TableDef {
@@ -25,16 +36,15 @@ fn bare_def(alloc: Global, name: Name, kind: TableKind) -> Result<TableDef, Faul
         gone: false,
         history,
         view,
-        columns: Items::new(alloc),
+        columns,
         dropped: Items::new(alloc),
         indexes: Items::new(alloc),
     })
 }
 
 fn def_of(alloc: Global, table: &CreateTable) -> Result<TableDef, Fault> {
-    let mut def = bare_def(alloc, table.name.copy()?, table.kind)?;
-    put_columns(table.columns.as_slice(), &mut def.columns)?;
-    Ok(def)
+    let columns = columns_of(alloc, table.columns.as_slice())?;
+    def_with(alloc, table.name.copy()?, table.kind, columns)
 }
 
 fn def_in(alloc: Global, found: Option<&Stmt>) -> Result<TableDef, Fault> {

@@ -1,9 +1,10 @@
 //! Receipts of the stored run with one damage each.
 
+use crate::call::run_on_both;
 use crate::files::bytes_under;
 use crate::machine::Machine;
-use base_io::{FixedClock, MemSink, MemSource, MemVault, OpenGate, Vault, VaultErr};
-use cli_commands::{Status, ledgerd};
+use base_io::{MemSink, Vault};
+use cli_commands::Status;
 use std::alloc::{AllocError, Global};
 
 /// What `check` answers of these bytes, with these digests.
@@ -13,32 +14,8 @@ fn checked(
     receipt: &[u8],
     digests: &[u8],
 ) -> Result<Status, AllocError> {
-    let mut vault = MemVault::new(alloc, Vec::new(alloc));
-    if put_both(&mut vault, receipt, digests).is_err() {
-        return Ok(Status::VaultFault);
-    }
-    let mut words = Vec::new(alloc);
-    for word in ["check", "a", "b"] {
-        words.push(String::from_str(alloc, word)?)?;
-    }
-    let mut source = MemSource::new(Vec::new(alloc), 1, Vec::new(alloc));
     let mut sink = MemSink::new(alloc, 64, Vec::new(alloc));
-    let clock = FixedClock { at: 0 };
-    Ok(ledgerd(
-        rt,
-        alloc,
-        &words,
-        &mut source,
-        &mut sink,
-        &mut vault,
-        &clock,
-        &OpenGate,
-    ))
-}
-
-fn put_both(vault: &mut MemVault, receipt: &[u8], digests: &[u8]) -> Result<(), VaultErr> {
-    vault.put("a", receipt)?;
-    vault.put("b", digests)
+    run_on_both(rt, "check a b", receipt, digests, &mut sink)
 }
 
 /// How many of the proper prefixes of a receipt are those of none.

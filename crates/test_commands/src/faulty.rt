@@ -1,9 +1,10 @@
 //! Commands over an outside in memory whose calls fail as they are told to.
 
+use crate::call::run_command;
 use crate::machine::Machine;
 use crate::setting::{CommandSetup, Faults};
-use base_io::{FixedClock, FolderVault, MemSink, MemSource, MemVault, OpenGate, Vault, VaultErr};
-use cli_commands::ledgerd;
+use base_io::{FolderVault, MemSink, MemSource, MemVault, Vault, VaultErr};
+use cli_commands::Status;
 use std::io;
 
 /// More than a file of the stored run has.
@@ -30,34 +31,40 @@ fn print_file(rt: &impl Machine, vault: &mut MemVault, name: &str) -> io::Result
     }
 }
 
-/// Runs a command over an outside in memory with these faults. Prints what was written, how the call ended,
-/// and what stands under the names.
+/// Prints what was written, how the call ended, and what stands under the names.
+fn print_end(
+    rt: &impl Machine,
+    status: Status,
+    written: &[u8],
+    vault: &mut MemVault,
+    names: &[String],
+) -> io::Result<()> {
+    let written = std::str::from_utf8(written).unwrap_or("");
+    println!(rt; "wrote {written:?}")?;
+    println!(rt; "{} {status}", status.code())?;
+    for name in names {
+        print_file(rt, vault, name.as_str())?;
+    }
+    Ok(())
+}
+
+/// Runs a command over an outside in memory with these faults, and prints how it ended.
 pub fn run_over_memory(
     rt: &impl Machine,
-    setting: CommandSetup,
+    setting: &mut CommandSetup,
     faults: Faults,
     words: &[String],
 ) -> io::Result<()> {
-    let alloc = rt.alloc();
-    let mut source = MemSource::new(setting.input, 77, faults.source);
-    let mut sink = MemSink::new(alloc, faults.piece, faults.sink);
-    let mut vault = vault_of(rt, faults.vault, &faults.names);
-    let clock = FixedClock { at: setting.clock };
-    let status = ledgerd(
-        rt,
-        alloc,
-        words,
-        &mut source,
-        &mut sink,
-        &mut vault,
-        &clock,
-        &OpenGate,
-    );
-    let written = std::str::from_utf8(sink.bytes()).unwrap_or("");
-    println!(rt; "wrote {written:?}")?;
-    println!(rt; "{} {status}", status.code())?;
-    for name in &faults.names {
-        print_file(rt, &mut vault, name.as_str())?;
-    }
-    Ok(())
+    let Faults {
+        source,
+        vault,
+        sink,
+        piece,
+        names,
+    } = faults;
+    let mut source = MemSource::new(setting.take_input(rt.alloc()), 77, source);
+    let mut sink = MemSink::new(rt.alloc(), piece, sink);
+    let mut vault = vault_of(rt, vault, &names);
+    let status = run_command(rt, words, &mut source, &mut sink, &mut vault, setting.clock);
+    print_end(rt, status, sink.bytes(), &mut vault, &names)
 }

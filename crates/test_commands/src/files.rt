@@ -1,9 +1,10 @@
 //! Files of the stored run that are made of others.
 
+use crate::call::run_on_both;
 use crate::machine::Machine;
 use crate::setting::bytes_of;
-use base_io::{FixedClock, FolderVault, MemSink, MemSource, MemVault, OpenGate, Vault, VaultErr};
-use cli_commands::{Status, ledgerd};
+use base_io::{MemSink, Vault};
+use cli_commands::Status;
 use std::alloc::{AllocError, Global};
 use std::io;
 
@@ -84,38 +85,14 @@ pub fn count_cuts<V: Vault>(
 
 /// Whether `verify` answers `No V0` to the bytes, with no digests.
 fn is_no_image(rt: &impl Machine, alloc: Global, bytes: &[u8]) -> Result<bool, AllocError> {
-    let mut vault = MemVault::new(alloc, Vec::new(alloc));
-    if put_both(&mut vault, bytes).is_err() {
-        return Ok(false);
-    }
-    let mut words = Vec::new(alloc);
-    for word in ["verify", "a", "b"] {
-        words.push(String::from_str(alloc, word)?)?;
-    }
-    let mut source = MemSource::new(Vec::new(alloc), 1, Vec::new(alloc));
     let mut sink = MemSink::new(alloc, 64, Vec::new(alloc));
-    let clock = FixedClock { at: 0 };
-    let status = ledgerd(
-        rt,
-        alloc,
-        &words,
-        &mut source,
-        &mut sink,
-        &mut vault,
-        &clock,
-        &OpenGate,
-    );
+    let status = run_on_both(rt, "verify a b", bytes, b"[]", &mut sink)?;
     Ok(status == Status::No && sink.bytes() == b"No V0\n".as_slice())
 }
 
-fn put_both(vault: &mut MemVault, image: &[u8]) -> Result<(), VaultErr> {
-    vault.put("a", image)?;
-    vault.put("b", b"[]")
-}
-
 /// Prints the bytes of a name in hexadecimal digits, or that there is none.
-pub fn print_hex(rt: &impl Machine, name: &str) -> io::Result<()> {
-    match FolderVault::new(*rt).get(name, MOST) {
+pub fn print_hex<V: Vault>(rt: &impl Machine, vault: &mut V, name: &str) -> io::Result<()> {
+    match vault.get(name, MOST) {
         Ok(bytes) => println!(rt; "{}", hex::encode(rt.alloc(), &bytes)?),
         Err(_) => println!(rt; "missing"),
     }

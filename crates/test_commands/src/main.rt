@@ -19,48 +19,31 @@
 //! are put before, each a call of the vault.
 #![tactic(auto)]
 
+mod call;
 mod damage;
 mod faulty;
 mod files;
 mod machine;
 mod setting;
 
+use crate::call::{run_command, words_of};
 use crate::damage::count_damages;
 use crate::faulty::run_over_memory;
 use crate::files::{are_same, bytes_under, count_cuts, patch, print_hex};
 use crate::machine::Machine;
 use crate::setting::CommandSetup;
-use base_io::{FixedClock, FolderVault, MemSource, OpenGate, StdoutSink};
-use cli_commands::{Status, ledgerd};
+use base_io::{FolderVault, MemSource, StdoutSink, Vault};
+use cli_commands::Status;
 use std::alloc::{AllocError, Global};
-use std::{io, mem};
-
-/// The words of a line.
-fn words_of(alloc: Global, line: &str) -> Result<Vec<String>, AllocError> {
-    let mut words = Vec::new(alloc);
-    for word in line.split(' ') {
-        words.push(String::from_str(alloc, word)?)?;
-    }
-    Ok(words)
-}
+use std::io;
 
 /// Runs a command over the folder.
-fn run_over_folder(rt: &impl Machine, setting: CommandSetup, words: &[String]) -> Status {
+fn run_over_folder(rt: &impl Machine, setting: &mut CommandSetup, words: &[String]) -> Status {
     let alloc = rt.alloc();
-    let mut source = MemSource::new(setting.input, 4096, Vec::new(alloc));
+    let mut source = MemSource::new(setting.take_input(alloc), 4096, Vec::new(alloc));
     let mut sink = StdoutSink::new(io::writer(rt));
     let mut vault = FolderVault::new(*rt);
-    let clock = FixedClock { at: setting.clock };
-    ledgerd(
-        rt,
-        alloc,
-        words,
-        &mut source,
-        &mut sink,
-        &mut vault,
-        &clock,
-        &OpenGate,
-    )
+    run_command(rt, words, &mut source, &mut sink, &mut vault, setting.clock)
 }
 
 fn print_status(rt: &impl Machine, status: Status) -> io::Result<()> {
@@ -72,7 +55,7 @@ fn print_status(rt: &impl Machine, status: Status) -> io::Result<()> {
     }
 }
 
-fn run(rt: &impl Machine, mut setting: CommandSetup, words: &[String]) -> io::Result<()> {
+fn run(rt: &impl Machine, setting: &mut CommandSetup, words: &[String]) -> io::Result<()> {
     match setting.faults.take() {
         Some(faults) => run_over_memory(rt, setting, faults, words),
         None => print_status(rt, run_over_folder(rt, setting, words)),
@@ -80,15 +63,16 @@ fn run(rt: &impl Machine, mut setting: CommandSetup, words: &[String]) -> io::Re
 }
 
 /// Runs the command behind the name of its input.
-fn run_with_input(
+fn run_with_input<V: Vault>(
     rt: &impl Machine,
-    mut setting: CommandSetup,
+    setting: &mut CommandSetup,
+    folder: &mut V,
     words: &[String],
 ) -> io::Result<()> {
     let [_, name, words @ ..] = words else {
         return print_status(rt, Status::Words);
     };
-    setting.input = bytes_under(rt.alloc(), &mut FolderVault::new(*rt), name.as_str());
+    setting.input = bytes_under(rt.alloc(), folder, name.as_str());
     run(rt, setting, words)
 }
 
@@ -108,29 +92,58 @@ fn set(alloc: Global, setting: &mut CommandSetup, line: &str) -> Result<Option<b
     Ok(Some(done))
 }
 
-fn answer(rt: &impl Machine, setting: CommandSetup, line: &str) -> io::Result<()> {
+/// The answer to a line of these words. It owns nothing, so that none of its ways out has anything to let go.
+fn answer_words<V: Vault>(
+    rt: &impl Machine,
+    setting: &mut CommandSetup,
+    folder: &mut V,
+    words: &[String],
+    line: &str,
+) -> io::Result<()> {
     let alloc = rt.alloc();
-    let words = words_of(alloc, line)?;
     match line.split_once(' ') {
         Some(("patch", _)) => {
-            let done = patch(alloc, &mut FolderVault::new(*rt), &words)?;
+            let done = patch(alloc, folder, words)?;
             println!(rt; "{done}")
         }
         Some(("cuts", name)) => {
-            let (refused, all) = count_cuts(rt, alloc, &mut FolderVault::new(*rt), name)?;
+            let (refused, all) = count_cuts(rt, alloc, folder, name)?;
             println!(rt; "{refused} of {all}")
         }
         Some(("damage", _)) => {
-            let (cut, changed, all) = count_damages(rt, alloc, &mut FolderVault::new(*rt), &words)?;
+            let (cut, changed, all) = count_damages(rt, alloc, folder, words)?;
             println!(rt; "{cut} of {all}, {changed} of {all}")
         }
         Some(("same", _)) => {
-            let same = are_same(alloc, &mut FolderVault::new(*rt), &words);
+            let same = are_same(alloc, folder, words);
             println!(rt; "{same}")
         }
-        Some(("hex", name)) => print_hex(rt, name),
-        Some(("input", _)) => run_with_input(rt, setting, &words),
-        _ => run(rt, setting, &words),
+        Some(("hex", name)) => print_hex(rt, folder, name),
+        Some(("input", _)) => run_with_input(rt, setting, folder, words),
+        _ => run(rt, setting, words),
+    }
+}
+
+fn answer(rt: &impl Machine, setting: &mut CommandSetup, line: &str) -> io::Result<()> {
+    let words = words_of(rt.alloc(), line)?;
+    let mut folder = FolderVault::new(*rt);
+    answer_words(rt, setting, &mut folder, &words, line)
+}
+
+/// Prints a line, and does what it says; a command forgets what it was to be run with.
+fn answer_line(rt: &impl Machine, setting: &mut CommandSetup, line: &str) -> io::Result<()> {
+    if line.starts_with('#') {
+        return println!(rt; "{line}");
+    }
+    println!(rt; "> {line}")?;
+    match set(rt.alloc(), setting, line)? {
+        Some(true) => Ok(()),
+        Some(false) => println!(rt; "false"),
+        None => {
+            answer(rt, setting, line)?;
+            setting.reset(rt.alloc());
+            Ok(())
+        }
     }
 }
 
@@ -138,20 +151,7 @@ fn main(rt: HostRuntime) -> io::Result<()> {
     let alloc = rt.alloc();
     let mut setting = CommandSetup::new(alloc);
     for line in rt.lines(alloc) {
-        let line = line?;
-        if line.starts_with('#') {
-            println!(rt; "{line}")?;
-            continue;
-        }
-        println!(rt; "> {line}")?;
-        match set(alloc, &mut setting, line.as_str())? {
-            Some(true) => (),
-            Some(false) => println!(rt; "false")?,
-            None => {
-                let with = mem::replace(&mut setting, CommandSetup::new(alloc));
-                answer(&rt, with, line.as_str())?;
-            }
-        }
+        answer_line(&rt, &mut setting, line?.as_str())?;
     }
     Ok(())
 }

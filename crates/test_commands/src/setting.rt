@@ -2,6 +2,7 @@
 
 use hex::FromHexError;
 use std::alloc::{AllocError, Global};
+use std::mem;
 
 /// The numbers of the calls of each outside that fail, counted from 1, and the names to look at behind the
 /// command.
@@ -32,6 +33,16 @@ impl CommandSetup {
             clock: 0,
             faults: None,
         }
+    }
+
+    /// All that was set is forgotten.
+    pub fn reset(&mut self, alloc: Global) {
+        *self = CommandSetup::new(alloc);
+    }
+
+    /// The input, of which none is left.
+    pub fn take_input(&mut self, alloc: Global) -> Vec<u8> {
+        mem::replace(&mut self.input, Vec::new(alloc))
     }
 
     /// Adds a line to the input.

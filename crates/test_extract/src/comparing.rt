@@ -64,5 +64,8 @@ pub fn compared<H: Hash32>(
         return Ok(format!(in alloc; "suspect: {verdict}")?);
     }
     let found = extract_each(alloc, h, honest, suspect, digests)?;
-    Ok(text_of(alloc, &found)?)
+    let text = text_of(alloc, &found);
+    // `drop` lets each type go by a function of its own, which is proved once
+    drop(found);
+    Ok(text?)
 }

@@ -45,7 +45,10 @@ pub fn image_of<H: Hash32, V: Vault>(
     ensures { IfOk result IsImage }
 {
     let journal = journal_of(alloc, vault, name)?;
-    match replay(alloc, h, &journal) {
+    let replayed = replay(alloc, h, &journal);
+    // `drop` lets each type go by a function of its own, which is proved once
+    drop(journal);
+    match replayed {
         Ok(image) => Ok(image),
         Err(ReplayErr::Differs { .. }) => Err(Fault::Form("a journal isn't legal")),
         Err(ReplayErr::Memory) => Err(Fault::Memory),

@@ -6,6 +6,8 @@
 //! one that begins with `#` are printed as they are.
 #![tactic(auto)]
 
+ghost use Rattle.format_image.specs.ImageBytes.{IsImage};
+
 mod comparing;
 mod fault;
 mod files;
@@ -19,6 +21,7 @@ use fault::Fault;
 use files::{digests_of, image_of};
 use hashes::NamedHash;
 use settling::settled;
+use sql_types::{HeldDigest, Image};
 use std::alloc::Global;
 use std::io;
 
@@ -45,6 +48,43 @@ fn words_of(line: &str) -> Option<(&str, Names<'_>)> {
     ))
 }
 
+/// What is found of two images, or of the receipts that they give of a transaction.
+fn found_of<H: Hash32>(
+    alloc: Global,
+    h: H,
+    honest: &Image,
+    suspect: &Image,
+    digests: &[HeldDigest],
+    tx: Option<u64>,
+) -> Result<String, Fault>
+    requires honest { IsImage honest.now }
+    requires suspect { IsImage suspect.now }
+{
+    match tx {
+        Some(tx) => settled(alloc, h, honest, suspect, digests, tx),
+        None => compared(alloc, h, honest, suspect, digests),
+    }
+}
+
+/// What is found of an image and the one of the journal that stands under a name.
+fn found_beside<H: Hash32, V: Vault>(
+    alloc: Global,
+    h: H,
+    vault: &mut V,
+    honest: &Image,
+    suspect: &str,
+    digests: &[HeldDigest],
+    tx: Option<u64>,
+) -> Result<String, Fault>
+    requires honest { IsImage honest.now }
+{
+    let suspect = image_of(alloc, h, vault, suspect)?;
+    let found = found_of(alloc, h, honest, &suspect, digests, tx);
+    // `drop` lets each type go by a function of its own, which is proved once
+    drop(suspect);
+    found
+}
+
 /// What is found of a line's images with its hash, or of the receipts that they give of a transaction.
 fn found<H: Hash32, V: Vault>(
     alloc: Global,
@@ -55,11 +95,17 @@ fn found<H: Hash32, V: Vault>(
 ) -> Result<String, Fault> {
     let digests = digests_of(alloc, vault, names.digests)?;
     let honest = image_of(alloc, h, vault, names.honest)?;
-    let suspect = image_of(alloc, h, vault, names.suspect)?;
-    match tx {
-        Some(tx) => settled(alloc, h, &honest, &suspect, digests.as_slice(), tx),
-        None => compared(alloc, h, &honest, &suspect, digests.as_slice()),
-    }
+    let found = found_beside(
+        alloc,
+        h,
+        vault,
+        &honest,
+        names.suspect,
+        digests.as_slice(),
+        tx,
+    );
+    drop(honest);
+    found
 }
 
 /// The transaction of whose receipts a line is, and the line behind.

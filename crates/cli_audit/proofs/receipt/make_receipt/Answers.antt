@@ -13,8 +13,8 @@ returns-in-Ok-Made-clause-receipted g c =
     let old = g.V.Vault.names c.args.vault.now in
     let shown : IsShown h c.args.image.now c.args.digests.now c.args.wanted old (Made c.in-Ok-Made.receipt) = rw c.in-Ok-Made.field-0-is at c.in-Ok-Made.ensures.shown in
     let has : HasReceipt h c.args.image.now c.args.digests.now c.args.wanted old = record { r = c.in-Ok-Made.receipt; on = shown } in
-    made_by c.save_receipt.result _ _ _ _ _ c.save_receipt.ensures.cause
-    (receipted_is h c.args.image.now c.args.digests.now c.args.wanted c.args.save.now old _ _ has c.in-Ok-Made.ensures.same c.save_receipt.result c.save_receipt.ensures.put _ _ c.save_receipt.ensures.written)
+    made_by c.save_receipt-ended.result _ _ _ _ _ c.save_receipt-ended.ensures.cause
+    (receipted_is h c.args.image.now c.args.digests.now c.args.wanted c.args.save.now old _ _ has c.in-Ok-Made.ensures.same c.save_receipt-ended.result c.save_receipt-ended.ensures.put _ _ c.save_receipt-ended.ensures.written)
 
 pub returns-in-Ok-Made-clause-shown : goal.returns-in-Ok-Made-clause-shown
 returns-in-Ok-Made-clause-shown g c =
@@ -22,11 +22,11 @@ returns-in-Ok-Made-clause-shown g c =
     let old = g.V.Vault.names c.args.vault.now in
     let shown : IsShown h c.args.image.now c.args.digests.now c.args.wanted old (Made c.in-Ok-Made.receipt) = rw c.in-Ok-Made.field-0-is at c.in-Ok-Made.ensures.shown in
     let has : HasReceipt h c.args.image.now c.args.digests.now c.args.wanted old = record { r = c.in-Ok-Made.receipt; on = shown } in
-    puts_receipt h c.args.image.now c.args.digests.now c.args.wanted c.args.save.now old _ _ has c.in-Ok-Made.ensures.same c.save_receipt.result c.save_receipt.ensures.put
+    puts_receipt h c.args.image.now c.args.digests.now c.args.wanted c.args.save.now old _ _ has c.in-Ok-Made.ensures.same c.save_receipt-ended.result c.save_receipt-ended.ensures.put
 
 pub returns-in-Ok-Made-clause-calls : goal.returns-in-Ok-Made-clause-calls
 returns-in-Ok-Made-clause-calls g c =
-    calls_by _ _ _ 2 c.save_receipt.result _ _ c.save_receipt.ensures.cause c.in-Ok-Made.ensures.gave c.save_receipt.ensures.puts
+    calls_by _ _ _ 2 c.save_receipt-ended.result _ _ c.save_receipt-ended.ensures.cause c.in-Ok-Made.ensures.gave c.save_receipt-ended.ensures.puts
 
 -- the verdict isn't Yes
 

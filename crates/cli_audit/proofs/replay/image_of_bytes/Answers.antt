@@ -10,11 +10,11 @@ returns-in_err-journal-clause-lacks g c =
 
 pub returns-clause-image : goal.returns-clause-image
 returns-clause-image g c =
-    image_made (g.H.Hash32.digest c.args.h) c.in_ok-journal.journal c.args.bytes.now c.run_again.result c.images_of_legal_journals_verify.ensures.written
+    image_made (g.H.Hash32.digest c.args.h) c.in_ok-journal.journal c.args.bytes.now c.run_again-image.result c.images_of_legal_journals_verify.ensures.written
     (c.readings_of_the_grammar_give_written.ensures.written (reading_of c.in_ok-journal.journal.version)
     (c.readings_of_the_grammar_give_written.ensures.versions c.in_ok-journal.journal.version))
-    c.in_ok-journal.ensures.spelled c.run_again.ensures.legal c.run_again.ensures.made c.run_again.ensures.spelling
+    c.in_ok-journal.ensures.spelled c.run_again-image.ensures.legal c.run_again-image.ensures.made c.run_again-image.ensures.spelling
 
 pub returns-clause-lacks : goal.returns-clause-lacks
 returns-clause-lacks g c =
-    no_image c.run_again.result c.in_ok-journal.journal c.args.bytes.now c.in_ok-journal.ensures.spelled c.run_again.ensures.illegal
+    no_image c.run_again-image.result c.in_ok-journal.journal c.args.bytes.now c.in_ok-journal.ensures.spelled c.run_again-image.ensures.illegal

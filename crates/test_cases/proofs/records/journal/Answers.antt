@@ -1,5 +1,5 @@
 use Rattle.test_cases.proofs.Found.{is_journal}
 use Rattle.test_cases.proofs.records.journal.Goals as goal
 
-pub journal_found-requires : goal.journal_found-requires
-journal_found-requires c = is_journal c.args.bytes.now c.in_ok-found.found c.in_ok-found.ensures.found
+pub journal_found-is_one-requires : goal.journal_found-is_one-requires
+journal_found-is_one-requires c = is_journal c.args.bytes.now c.in_ok-found.found c.in_ok-found.ensures.found
