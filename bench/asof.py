@@ -14,7 +14,7 @@ import subprocess
 import sys
 import tempfile
 
-SELECTS = 200
+SELECTS = 20_000
 
 
 def seconds(program, folder, words, lines):

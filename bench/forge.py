@@ -174,6 +174,18 @@ class Forger:
         else:
             own[place] = self.with_other_value(own[place])
 
+    def put(self, items: list, place: int, other: int, altered, ways: int) -> None:
+        """Takes an item away, doubles it or exchanges it with another; in all other ways puts the altered one there."""
+        how = self.choice.randrange(ways)
+        if how == 0:
+            del items[place]
+        elif how == 1:
+            items.insert(other, items[place])
+        elif how == 2:
+            items[place], items[other] = items[other], items[place]
+        else:
+            items[place] = altered
+
     def alter_entry(self) -> None:
         entries = self.image.entries
         place, other = self.place_in(entries), self.place_in(entries)
@@ -188,15 +200,7 @@ class Forger:
             it._replace(roots=dict(sorted(roots.items()))), it._replace(roots=rest),
             it._replace(roots={**it.roots, table: self.choice.randbytes(32)}),
         ))
-        how = self.choice.randrange(8)
-        if how == 0:
-            del entries[place]
-        elif how == 1:
-            entries.insert(other, it)
-        elif how == 2:
-            entries[place], entries[other] = entries[other], it
-        else:
-            entries[place] = altered
+        self.put(entries, place, other, altered, 8)
 
     def alter_block(self) -> None:
         blocks = self.image.blocks
@@ -207,15 +211,7 @@ class Forger:
             it._replace(size=self.choice.choice((0, it.size + 1, it.size + 2, 100_000, 100_001, 2**64 - 1))),
             it._replace(previous=self.choice.choice((bytes(32), blocks[other].hash()))),
         ))
-        how = self.choice.randrange(6)
-        if how == 0:
-            del blocks[place]
-        elif how == 1:
-            blocks.insert(other, it)
-        elif how == 2:
-            blocks[place], blocks[other] = blocks[other], it
-        else:
-            blocks[place] = altered
+        self.put(blocks, place, other, altered, 6)
 
     def alter_definition(self) -> None:
         definitions = self.image.definitions
