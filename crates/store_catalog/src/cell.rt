@@ -1,4 +1,5 @@
-//! The catalog's cell.
+//! The catalog's cell. `drop` lets each type go by a function of its own, which is proved once; where a value goes
+//! by itself, that is proved there of each of its parts.
 
 ghost use Rattle.std.specs.Prelude.{◌≡◌, ◌≢◌, Err, IfErr, IfOk, IfSome, Ok, OnErr, OnOk, Some, option_map};
 ghost use Rattle.sql_types.specs.declared.reply.Reply.TheVariants as reply;
@@ -17,14 +18,15 @@ ghost use Rattle.spec_protocol.specs.CatalogVisits.{with_holds};
 ghost use Rattle.spec_protocol.specs.Cells.{first_catalog, versions_in, Catalog};
 ghost use Rattle.spec_protocol.specs.Doing.{Stopped};
 ghost use Rattle.spec_protocol.specs.Seats.{OpenTransaction};
-ghost use Rattle.store_tx.specs.Represents.{Represents};
+ghost use Rattle.spec_model.specs.SystemTables.{columns_id, tables_id};
+ghost use Rattle.store_tx.specs.Represents.{IsOpen, Represents};
 ghost use Rattle.store_catalog.specs.Calls.{left, undone, IndexMade, LocksTaken, MayCreate, TableAltered, TableMade};
 ghost use Rattle.store_catalog.specs.Definitions.{redefined};
 ghost use Rattle.store_catalog.specs.WorkedOut.{IsPlaced};
 
 use crate::altering::{AlteredTable, work_out_alter, work_out_drop};
 use crate::creating::{COLUMNS, NewIndex, NewTable, TABLES, work_out_index, work_out_table};
-use crate::definitions::{Creator, copy_before, copy_defs, keep_change, undo_change};
+use crate::definitions::{Creator, copy_before, copy_defs, keep_change, put_creator, undo_change};
 use crate::locks::or_refusal;
 use crate::named_defs::{NamedDefs, PlacedDef};
 use crate::noting::{note_both, open_both};
@@ -34,7 +36,7 @@ use crate::starting::start_rows;
 use base_merkle::Hash32;
 use base_types::{Items, Memory, Name, TableId, TxId};
 use sql_system::first_tables;
-use sql_types::{Alter, CreateIndex, CreateTable, Part, Row, Select, TableDef, Version};
+use sql_types::{Alter, CreateIndex, CreateTable, Part, Row, Select, Table, TableDef, Version};
 use sql_value::Refusal;
 use std::alloc::Global;
 use std::marker::Model;
@@ -70,6 +72,15 @@ impl Model for CatalogCell {
     ghost invariant = { λ c. AreFormed c.defs × MayTakeBack c.defs c.creator };
 }
 
+// The definition of a table, whose versions go.
+fn def_of(table: Table) -> TableDef
+    ensures { result ≡ table.def }
+{
+    let Table { def, versions } = table;
+    drop(versions);
+    def
+}
+
 // Makes room for a row in the table of tables, and for so many in that of columns.
 fn reserve(
     tables: &mut VersionStore,
@@ -85,6 +96,26 @@ fn reserve(
     columns.reserve(count)
 }
 
+// Makes room for a new table: in the system tables, and in the trees of the transaction.
+fn make_room<H: Hash32>(
+    ctx: &mut TxCtx<H>,
+    tables: &mut VersionStore,
+    columns: &mut VersionStore,
+    count: usize,
+) -> Result<(), Memory>
+    ensures same { (h : H) (o : OpenTransaction) → Represents H.digest h ctx.old o
+        → Represents H.digest h ctx.new o }
+    ensures open_tables { OnOk result (IsOpen tables_id ctx.new) }
+    ensures open_columns { OnOk result (IsOpen columns_id ctx.new) }
+    ensures tables { tables.new.stored ≡ tables.old.stored }
+    ensures columns { columns.new.stored ≡ columns.old.stored }
+    ensures for_row { OnOk result (tables.new.room ≡ 1) }
+    ensures for_rows { OnOk result (columns.new.room ≡ count) }
+{
+    open_both(ctx)?;
+    reserve(tables, columns, count)
+}
+
 impl CatalogCell {
     /// The cell of a database without transactions: the definitions of the system tables, without rows and
     /// locks.
@@ -93,11 +124,19 @@ impl CatalogCell {
         ensures { IfOk result (λ c. c ≡ first_catalog) }
     {
         let mut system = first_tables(alloc)?;
-        let columns = system.pop().unwrap();
-        let tables = system.pop().unwrap();
+        let columns = def_of(system.pop().unwrap());
+        let tables = def_of(system.pop().unwrap());
+        drop(system);
         let mut defs = NamedDefs::new(alloc);
-        defs.push(alloc, tables.def)?;
-        defs.push(alloc, columns.def)?;
+        if let Err(Memory) = defs.push(alloc, tables) {
+            drop(defs);
+            drop(columns);
+            return Err(Memory);
+        }
+        if let Err(Memory) = defs.push(alloc, columns) {
+            drop(defs);
+            return Err(Memory);
+        }
         Ok(CatalogCell {
             defs,
             creator: None,
@@ -195,14 +234,23 @@ impl CatalogCell {
     {
         let (tx, seq) = (ctx.id(), ctx.seq());
         let NewTable { def, first, second } = work_out_table(alloc, &self.defs, tx, seq, create)?;
-        open_both(ctx)?;
         let count = second.starts.len();
-        reserve(&mut self.tables, &mut self.columns, count)?;
-        self.defs.push(alloc, def)?;
+        if let Err(Memory) = make_room(ctx, &mut self.tables, &mut self.columns, count) {
+            drop(def);
+            drop(first);
+            drop(second);
+            return Err(Refusal::NoMemory);
+        }
+        if let Err(Memory) = self.defs.push(alloc, def) {
+            drop(first);
+            drop(second);
+            return Err(Refusal::NoMemory);
+        }
         note_both(ctx, first.leaves.as_slice(), second.leaves.as_slice());
         carry_out(&mut self.tables, tx, seq, first.starts);
         carry_out(&mut self.columns, tx, seq + 1, second.starts);
-        self.creator = Some(Creator { tx, replaced: None });
+        let creator = Creator { tx, replaced: None };
+        put_creator(&mut self.creator, Some(creator));
         Ok(())
     }
 
@@ -230,7 +278,11 @@ impl CatalogCell {
             answer,
             rows,
         } = work_out_index(alloc, &self.defs, tx, seq, create)?;
-        start_rows(ctx, &mut self.columns, COLUMNS, tx, seq, rows)?;
+        if let Err(Memory) = start_rows(ctx, &mut self.columns, COLUMNS, tx, seq, rows) {
+            drop(placed);
+            drop(answer);
+            return Err(Refusal::NoMemory);
+        }
         self.redefine(tx, placed);
         Ok(answer)
     }
@@ -259,7 +311,10 @@ impl CatalogCell {
         let AlteredTable { placed, rows } = work_out_alter(
             alloc, &self.defs, tables, columns, tx, seq, alter,
         )?;
-        start_rows(ctx, &mut self.columns, COLUMNS, tx, seq, rows)?;
+        if let Err(Memory) = start_rows(ctx, &mut self.columns, COLUMNS, tx, seq, rows) {
+            drop(placed);
+            return Err(Refusal::NoMemory);
+        }
         self.redefine(tx, placed);
         Ok(())
     }
@@ -288,7 +343,10 @@ impl CatalogCell {
         let AlteredTable { placed, rows } = work_out_drop(
             alloc, &self.defs, tables, columns, tx, seq, name,
         )?;
-        start_rows(ctx, &mut self.tables, TABLES, tx, seq, rows)?;
+        if let Err(Memory) = start_rows(ctx, &mut self.tables, TABLES, tx, seq, rows) {
+            drop(placed);
+            return Err(Refusal::NoMemory);
+        }
         self.redefine(tx, placed);
         Ok(())
     }
@@ -299,7 +357,7 @@ impl CatalogCell {
         ensures { self.new ≡ redefined tx placed.def self.old }
     {
         let replaced = Some(self.defs.replace(placed));
-        self.creator = Some(Creator { tx, replaced });
+        put_creator(&mut self.creator, Some(Creator { tx, replaced }));
     }
 
     /// Takes back what the transaction made: the definitions are what they were before, and its rows are

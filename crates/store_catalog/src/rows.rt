@@ -33,9 +33,30 @@ pub(crate) fn new_rows(
     ensures leaves { IfOk result (λ rows. rows.leaves ≡ map event_bytes (starts_of table tx seq starts)) }
     ensures room { OnOk result (seq + length starts < 2 ^ 63) }
 {
+    match numbered_leaves(alloc, table, tx, seq, starts.as_slice()) {
+        Ok(leaves) => Ok(NewRows { starts, leaves }),
+        // `drop` lets the type go by a function of its own, which is proved once
+        Err(Memory) => {
+            drop(starts);
+            Err(Memory)
+        }
+    }
+}
+
+// The leaves of starts that have the numbers from `seq` on.
+fn numbered_leaves(
+    alloc: Global,
+    table: TableId,
+    tx: TxId,
+    seq: u64,
+    starts: &[Change],
+) -> Result<Items<Blob>, Memory>
+    requires { AllByRecursion IsRow starts.now }
+    ensures leaves { IfOk result (λ leaves. leaves ≡ map event_bytes (starts_of table tx seq starts.now)) }
+    ensures room { OnOk result (seq + length starts.now < 2 ^ 63) }
+{
     have_numbers(seq, starts.len())?;
-    let leaves = leaves_of(alloc, table, tx, seq, starts.as_slice())?;
-    Ok(NewRows { starts, leaves })
+    leaves_of(alloc, table, tx, seq, starts)
 }
 
 fn have_numbers(seq: u64, count: usize) -> Result<(), Memory>

@@ -4,7 +4,7 @@ use Rattle.sql_types.specs.declared.version.Version.{Version}
 use Rattle.spec_protocol.specs.Cells.{CatalogCell}
 use Rattle.store_catalog.specs.Calls.{IndexMade}
 use Rattle.store_catalog.specs.Definitions.{creator_seen}
-use Rattle.store_catalog.proofs.Creates.{cell_of, has_index, made_before, none_made, none_refused, still_so}
+use Rattle.store_catalog.proofs.Creates.{cell_of, has_index, made_before}
 use Rattle.store_catalog.proofs.Entering.{index_room, indexes}
 use Rattle.store_catalog.proofs.cell.CatalogCell.create_index.Goals as goal
 
@@ -40,25 +40,19 @@ returns-clause-ok g c =
     let cell : CatalogCell = cell_of s.defs (creator_seen s.defs s.creator) s.tables.stored.versions s.columns.stored.versions s.locks in
     let after = c.redefine.new.self in
     let old_columns = made_before m.o.id m.o.seq tx seq c.args.self.now.columns cell.columns (sym (c.id-tx.ensures m.h m.o m.is)) (sym (c.seq-seq.ensures m.h m.o m.is)) (sym (ap (λ (x : CatalogCell). x.columns) c.self.view_is)) m.columns in
-    let e = indexes cell tx seq create new c.self.invariant.0 worked_out new.rows.leaves refl after c.start_rows.new.stored.stored.versions old_columns c.in_ok-start_rows.ensures.versions c.redefine.ensures in
+    let e = indexes cell tx seq create new c.self.invariant.0 worked_out new.rows.leaves refl after c.start_rows.new.stored.stored.versions old_columns c.in_default.ensures.versions c.redefine.ensures in
     subst (λ (x : CatalogCell). IndexMade digest x c.args.ctx.now create new.answer after c.start_rows.new.ctx) c.self.view_is
     (record {
       def = worked_out.def;
       index = worked_out.index;
       passes = worked_out.passes;
       now = worked_out.answer;
-      made = λ h o r. has_index digest h c.start_rows.new.ctx o tx seq worked_out.def worked_out.index new.rows.leaves cell after e (c.id-tx.ensures h o r) (c.seq-seq.ensures h o r) (c.in_ok-start_rows.ensures.noted h o r);
+      made = λ h o r. has_index digest h c.start_rows.new.ctx o tx seq worked_out.def worked_out.index new.rows.leaves cell after e (c.id-tx.ensures h o r) (c.seq-seq.ensures h o r) (c.in_default.ensures.noted h o r);
     })
 
-pub returns-in_err-start_rows-clause-ok : goal.returns-in_err-start_rows-clause-ok
-returns-in_err-start_rows-clause-ok g c = none_made _ c.from_residual-in_err-start_rows.result c.from_residual-in_err-start_rows.ensures.1
-
-pub returns-in_err-start_rows-clause-refused : goal.returns-in_err-start_rows-clause-refused
-returns-in_err-start_rows-clause-refused g c = none_refused _ c.from_residual-in_err-start_rows.result c.from_residual-in_err-start_rows.ensures.1
-
-pub returns-in_err-start_rows-clause-err : goal.returns-in_err-start_rows-clause-err
-returns-in_err-start_rows-clause-err g c =
+pub returns-in-Err-clause-err : goal.returns-in-Err-clause-err
+returns-in-Err-clause-err g c =
     let s = c.self.inside in
     let cell = λ (columns : List Version). cell_of s.defs (creator_seen s.defs s.creator) s.tables.stored.versions columns s.locks in
-    let same : c.start_rows.new.stored ≡ s.columns = c.in_err-start_rows.ensures.err in
-    still_so _ c.from_residual-in_err-start_rows.result (ap (λ t. cell t.stored.versions) same ∙ c.self.view_is)
+    let same : c.start_rows.new.stored ≡ s.columns = c.in-Err.ensures.err in
+    ap (λ t. cell t.stored.versions) same ∙ c.self.view_is

@@ -27,7 +27,7 @@ returns-clause-ok g c =
     let after = c.redefine.new.self in
     let old = made_before m.o.id m.o.seq tx seq c.args.self.now.tables cell.tables (sym (c.id-tx.ensures m.h m.o m.is)) (sym (c.seq-seq.ensures m.h m.o m.is)) (sym (ap (λ (x : CatalogCell). x.tables) c.self.view_is)) m.tables in
     let now : started ≡ changed_all tx seq (row ∷ []) cell.tables =
-    c.in_ok-start_rows.ensures.versions ∙ ap (λ (xs : List Change). changed_all tx seq xs cell.tables) worked_out.rows.starts in
+    c.in_default.ensures.versions ∙ ap (λ (xs : List Change). changed_all tx seq xs cell.tables) worked_out.rows.starts in
     let made : after ≡ redefined tx new.placed.def (cell_of cell.defs cell.creator started cell.columns cell.holds) = c.redefine.ensures in
     subst (λ (x : CatalogCell). TableAltered digest x c.args.ctx.now (table_drop x.defs x.tables x.columns stmt) after c.start_rows.new.ctx) c.self.view_is
     (record {
@@ -35,5 +35,5 @@ returns-clause-ok g c =
       passes = ap₂ (λ (ts cs : List Version). table_drop s.defs ts cs stmt) (sym c.versions-tables.ensures) (sym c.versions-columns.ensures) ∙ worked_out.passes;
       made = λ h o r. has_altered digest tables_id tx seq row worked_out.is_row new.rows.leaves worked_out.rows.leaves cell.tables after.tables old (ap (λ (x : CatalogCell). x.tables) made ∙ now)
           (in_tables new.placed.def row) cell after (table_gone tx seq new.placed.def row cell after started now made) (λ trees. refl) refl
-          h c.start_rows.new.ctx o (c.id-tx.ensures h o r) (c.seq-seq.ensures h o r) (c.in_ok-start_rows.ensures.noted h o r);
+          h c.start_rows.new.ctx o (c.id-tx.ensures h o r) (c.seq-seq.ensures h o r) (c.in_default.ensures.noted h o r);
     })
