@@ -60,3 +60,8 @@ hashes_next h marks part done n own slice before next parts long before_is own_i
     ∙ sym (map-append f (take done marks) part)
     ∙ ap (map f) (sym parts)
     ∙ ap (λ (k : ℕ). map f (take (done + k) marks)) (sym long)
+
+-- those of two parts
+pub hashes_of_both : (h : List ℕ → List ℕ) (marks a b : List Mark) (hashes : List (List ℕ)) → marks ≡ a ++ b → hashes ≡ map (leaf_hash h) a ++ map (leaf_hash h) b
+    → hashes ≡ map (leaf_hash h) marks
+hashes_of_both h marks a b hashes parts is = is ∙ sym (map-append (leaf_hash h) a b) ∙ ap (map (leaf_hash h)) (sym parts)
