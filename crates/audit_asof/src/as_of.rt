@@ -77,12 +77,16 @@ impl AsOf {
         ensures { IfOk result (λ a. a ≡ database_at image n) }
     {
         let Image {
+            database,
+            blocks,
             entries,
             defs,
             tables,
-            ..
         } = image;
+        drop(database);
+        drop(blocks);
         let txs = EarlierTxs::of(alloc, &entries.as_slice()[..n])?;
+        drop(entries);
         let tables = tables_at(alloc, &txs, defs, tables)?;
         Ok(AsOf {
             tables: open_tables(alloc, tables)?,
@@ -99,7 +103,12 @@ impl AsOf {
         ensures no_memory { IfOk result (λ reply. reply ≡ replies.Refused NoMemory → ⊥) }
     {
         match parse(alloc, text) {
-            Ok(stmt) => self.reply_to(alloc, &stmt),
+            Ok(stmt) => {
+                let reply = self.reply_to(alloc, &stmt);
+                // `drop` is proved once for each type; at the end of the scope each part would be proved here.
+                drop(stmt);
+                reply
+            }
             Err(ParseErr::Syntax) => Ok(AsOfReply::Refused(Refusal::SyntaxError)),
             Err(ParseErr::Memory) => Err(Memory),
         }

@@ -15,7 +15,6 @@ use std::alloc::Global;
 
 /// What these rows of the two system tables tell of the definition: its names, and the columns, the indexes and the
 /// parts of indexes that have their rows.
-#[tactic(auto, unfolding(spec_asof::specs::DefTold::def_told))]
 pub(crate) fn def_told(
     alloc: Global,
     first: &[Version],
@@ -24,41 +23,56 @@ pub(crate) fn def_told(
 ) -> Result<TableDef, Memory>
     ensures { IfOk result (λ told. told ≡ spec.def_told (rows_in first.now) (rows_in second.now) def) }
 {
+    let mut told = def;
+    match tell_def(alloc, first, second, &mut told) {
+        Ok(()) => Ok(told),
+        Err(Memory) => {
+            drop(told);
+            Err(Memory)
+        }
+    }
+}
+
+// The definition is borrowed here, and held by the caller alone: each function that holds one has to prove at each
+// want of memory how all its parts are dropped.
+#[tactic(auto, unfolding(spec_asof::specs::DefTold::def_told))]
+fn tell_def(
+    alloc: Global,
+    first: &[Version],
+    second: &[Version],
+    def: &mut TableDef,
+) -> Result<(), Memory>
+    ensures { OnOk result (def.new ≡ spec.def_told (rows_in first.now) (rows_in second.now) def.old) }
+{
     let tables = system_rows_of(alloc, first, def.id)?;
     let row = last_row(&tables, 0, def.id.into());
     let items = system_rows_of(alloc, second, def.id)?;
-    table_told(alloc, row, items_told(alloc, &items, def)?)
+    tell_items(alloc, &items, def)?;
+    tell_table(alloc, row, def)?;
+    Ok(())
 }
 
-/// The definition with the columns, the indexes and the parts of indexes that have their rows among these.
-fn items_told(alloc: Global, rows: &[&Version], def: TableDef) -> Result<TableDef, Memory>
-    ensures { IfOk result (λ told. told ≡ spec.items_told (rows_seen rows.now) def) }
+/// Leaves the columns, the indexes and the parts of indexes that have their rows among these.
+fn tell_items(alloc: Global, rows: &[&Version], def: &mut TableDef) -> Result<(), Memory>
+    ensures { OnOk result (def.new ≡ spec.items_told (rows_seen rows.now) def.old) }
 {
-    let columns = columns_told(alloc, rows, def.columns.as_slice())?;
-    let dropped = dropped_told(alloc, rows, def.dropped.as_slice())?;
-    let indexes = indexes_told(alloc, rows, def.id, def.indexes.as_slice())?;
-    Ok(TableDef {
-        columns,
-        dropped,
-        indexes,
-        ..def
-    })
+    def.columns = columns_told(alloc, rows, def.columns.as_slice())?;
+    def.dropped = dropped_told(alloc, rows, def.dropped.as_slice())?;
+    def.indexes = indexes_told(alloc, rows, def.id, def.indexes.as_slice())?;
+    Ok(())
 }
 
-/// The definition with the names that the row of its table says, and dropped where the row says so.
-fn table_told(alloc: Global, row: Option<&Version>, def: TableDef) -> Result<TableDef, Memory>
-    ensures { IfOk result (λ told. told ≡ spec.table_told (row_seen row.entry) def) }
+/// Gives the definition the names that the row of its table says, and marks it as dropped where the row says so.
+fn tell_table(alloc: Global, row: Option<&Version>, def: &mut TableDef) -> Result<(), Memory>
+    ensures { OnOk result (def.new ≡ spec.table_told (row_seen row.entry) def.old) }
 {
-    match row {
-        Some(row) => Ok(TableDef {
-            name: text_at(alloc, row, 2)?,
-            gone: number_at(row, 3).cmp(&2).is_gt(),
-            history: text_at(alloc, row, 4)?,
-            view: text_at(alloc, row, 5)?,
-            ..def
-        }),
-        None => Ok(def),
+    if let Some(row) = row {
+        def.name = text_at(alloc, row, 2)?;
+        def.gone = number_at(row, 3).cmp(&2).is_gt();
+        def.history = text_at(alloc, row, 4)?;
+        def.view = text_at(alloc, row, 5)?;
     }
+    Ok(())
 }
 
 fn columns_told(

@@ -125,7 +125,12 @@ impl SerialMachine {
         ensures order { OnOk result (InOrder self.new) }
     {
         match parse_in(alloc, text, version) {
-            Ok(stmt) => self.answer(alloc, &stmt),
+            Ok(stmt) => {
+                let reply = self.answer(alloc, &stmt);
+                // that each part is let go is then proved once for the type
+                drop(stmt);
+                reply
+            }
             Err(ParseErr::Syntax) => Ok(Reply::Refused(Refusal::SyntaxError)),
             Err(ParseErr::Memory) => Err(Memory),
         }
