@@ -18,7 +18,7 @@ use crate::creating::{
 use crate::names::has_name;
 use crate::rows::{is_standing, refuse_if};
 use base_types::{Items, Memory, Name, TableId};
-use sql_parts::{copy_columns, copy_def, copy_indexes, is_dropped, place_of};
+use sql_parts::{copy_def, is_dropped, place_of};
 use sql_types::{Alter, Part, TableDef};
 use sql_value::{ColumnDef, Refusal};
 use std::alloc::{AllocError, Global};
@@ -88,9 +88,16 @@ fn column_to_add(column: &ColumnDef) -> Result<ColumnDef, Memory>
 fn with_added(alloc: Global, def: &TableDef, column: &ColumnDef) -> Result<TableDef, Memory>
     ensures { IfOk result (λ now. now ≡ spec.with_added def.now column.now) }
 {
+    let last = column_to_add(column)?;
     let mut now = copy_def(alloc, def)?;
-    now.columns.push(column_to_add(column)?)?;
-    Ok(now)
+    match now.columns.push(last) {
+        Ok(()) => Ok(now),
+        Err(error) => {
+            // that each part is let go is then proved once for the type
+            drop(now);
+            Err(error)
+        }
+    }
 }
 
 /// The definition with the column behind all others, and the column with its ordinal.
@@ -100,8 +107,9 @@ fn added_to(alloc: Global, def: &TableDef, column: &ColumnDef) -> Result<WithCol
     ensures { IfOk result (λ added. added ≡ spec.added_to def.now column.now) }
 {
     let ordinal = def.columns.len() as u16 + 1;
+    let added = column_to_add(column)?;
     let now = with_added(alloc, def, column)?;
-    Ok((now, (ordinal, column_to_add(column)?)))
+    Ok((now, (ordinal, added)))
 }
 
 fn add_column(
@@ -247,18 +255,14 @@ fn with_dropped(
     requires { place < length def.now.columns }
     ensures { IfOk result (λ now. now ≡ altering.with_one_dropped def.now place ordinal column) }
 {
-    let mut columns = copy_columns(alloc, def.columns.as_slice())?.into_vec();
+    let dropped = with_ordinal(alloc, def.dropped.as_slice(), ordinal)?;
+    let copy = copy_def(alloc, def)?;
+    let mut columns = copy.columns.into_vec();
     columns[place] = column;
     Ok(TableDef {
-        id: def.id,
-        name: def.name.copy()?,
-        kind: def.kind,
-        gone: def.gone,
-        history: def.history.copy()?,
-        view: def.view.copy()?,
         columns: Items::from_vec(columns),
-        dropped: with_ordinal(alloc, def.dropped.as_slice(), ordinal)?,
-        indexes: copy_indexes(alloc, def.indexes.as_slice())?,
+        dropped,
+        ..copy
     })
 }
 
@@ -363,15 +367,12 @@ fn gone(
 ) -> Result<TableDef, Memory>
     ensures { IfOk result (λ now. now ≡ altering.gone def.now name history view) }
 {
+    let copy = copy_def(alloc, def)?;
     Ok(TableDef {
-        id: def.id,
         name,
-        kind: def.kind,
         gone: true,
         history,
         view,
-        columns: copy_columns(alloc, def.columns.as_slice())?,
-        dropped: Items::from_vec(Vec::from_clones(alloc, def.dropped.as_slice())?),
-        indexes: copy_indexes(alloc, def.indexes.as_slice())?,
+        ..copy
     })
 }

@@ -142,6 +142,8 @@ fn grouped(alloc: Global, c: &mut Cursor<'_>, depth: u16, level: Level) -> Resul
         let right = operand(alloc, c, depth, level)?;
         left = binary(alloc, op, left, right)?;
     }
+    // that each part is let go is then proved once for the type
+    drop(left);
     Err(ParseErr::Syntax)
 }
 

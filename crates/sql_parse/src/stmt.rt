@@ -182,6 +182,8 @@ pub fn statement(alloc: Global, c: &mut Cursor<'_>) -> Result<Stmt, ParseErr>
     if c.tokens_left() == 0 {
         Ok(found)
     } else {
+        // that each part is let go is then proved once for the type
+        drop(found);
         Err(ParseErr::Syntax)
     }
 }

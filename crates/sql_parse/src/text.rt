@@ -92,6 +92,8 @@ pub fn parse_in(alloc: Global, text: &str, version: u8) -> Result<Stmt, ParseErr
     if has_statement(version, &found) {
         Ok(found)
     } else {
+        // that each part is let go is then proved once for the type
+        drop(found);
         Err(ParseErr::Syntax)
     }
 }
