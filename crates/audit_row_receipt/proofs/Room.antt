@@ -4,7 +4,7 @@ use Rattle.std.specs.List.{AllByRecursion}
 use Rattle.base_fields.specs.Fields.{u8_field, u16_field, u32_field, u64_field, long_field}
 use Rattle.sql_types.specs.declared.event.Event.{Event}
 use Rattle.sql_types.specs.declared.event.EventField.{EventField}
-use Rattle.format_event.specs.Leaf.{value_bytes, type_bytes, type_code, first_parameter, second_parameter, column_bytes, columns_bytes, start_bytes, head_bytes, event_bytes, without_nulls, IsField, HasLeaf}
+use Rattle.format_event.specs.Leaf.{value_bytes, type_bytes, type_code, first_parameter, second_parameter, column_bytes, columns_bytes, start_bytes, head_bytes, op_of, event_bytes, without_nulls, IsField, HasLeaf}
 use Rattle.format_event.proofs.Sizes.{value_short}
 use Rattle.format_receipt.proofs.Room.{length_u16, length_u32, length_u64}
 
@@ -28,9 +28,10 @@ start_short (Some s) = omega (arith, length-append (u64_field s.0) (u64_field s.
 
 head_short : (e : Event) → length (head_bytes e) ≡ 22
 head_short e =
-    let a = length-append (u8_field 1) (u32_field e.table ++ (u8_field e.op ++ (u64_field e.tx ++ u64_field e.seq))) in
-    let b = length-append (u32_field e.table) (u8_field e.op ++ (u64_field e.tx ++ u64_field e.seq)) in
-    let c = length-append (u8_field e.op) (u64_field e.tx ++ u64_field e.seq) in
+    let op = op_of e.ends in
+    let a = length-append (u8_field 1) (u32_field e.table ++ (u8_field op ++ (u64_field e.tx ++ u64_field e.seq))) in
+    let b = length-append (u32_field e.table) (u8_field op ++ (u64_field e.tx ++ u64_field e.seq)) in
+    let c = length-append (u8_field op) (u64_field e.tx ++ u64_field e.seq) in
     let d = length-append (u64_field e.tx) (u64_field e.seq) in
     omega (arith, a, b, c, d, length_u32 e.table, length_u64 e.tx, length_u64 e.seq)
 
@@ -38,7 +39,7 @@ pub event_room : (e : Event) → HasLeaf e → length (event_bytes e) < 2 ^ 32
 unfolding event_bytes
 event_room e is =
     let w : Event = without_nulls e in
-    let a = length-append (head_bytes w) (start_bytes w.start ++ columns_bytes w.columns) in
-    let b = length-append (start_bytes w.start) (columns_bytes w.columns) in
+    let a = length-append (head_bytes w) (start_bytes w.ends ++ columns_bytes w.columns) in
+    let b = length-append (start_bytes w.ends) (columns_bytes w.columns) in
     let c = length-append (u16_field (length w.columns)) (flat_map column_bytes w.columns) in
-    omega (arith, a, b, c, head_short w, start_short w.start, length_u16 (length w.columns), columns_short w.columns is.columns, is.count)
+    omega (arith, a, b, c, head_short w, start_short w.ends, length_u16 (length w.columns), columns_short w.columns is.columns, is.count)

@@ -8,12 +8,12 @@ use Rattle.base_fields.specs.Fields.{u8_field, u16_field, u32_field, u64_field, 
 use Rattle.base_fields.specs.Readers.{◌>>=◌, u8_at, u16_at, u32_at, u64_at, long_at, both, depends, mapped, listed, whole}
 use Rattle.base_fields.specs.Exact.{IsBytes, Exact, Taken}
 use Rattle.base_fields.proofs.Written.{IsBytes-back, bind_some, some_is, u8_exact, u16_exact, u32_exact, u64_exact, long_exact}
-use Rattle.base_fields.proofs.Parts.{after_exact, both_exact, depends_exact, decoded_exact, mapped_exact, where_exact, listed_exact, one_value, test_some, whole_sound, whole_complete}
+use Rattle.base_fields.proofs.Parts.{after_exact, both_exact, depends_exact, decoded_exact, where_exact, listed_exact, one_value, test_some, whole_sound, whole_complete}
 use Rattle.sql_value.specs.declared.sql_type.SqlType.{SqlType}
 use Rattle.sql_value.specs.Stored.{is_stored}
 use Rattle.sql_types.specs.declared.event.Event.{Event}
 use Rattle.sql_types.specs.declared.event.EventField.{EventField}
-use Rattle.format_event.specs.Leaf.{type_bytes, value_bytes, column_bytes, columns_bytes, start_bytes, encoded, event_bytes, has_value, without_nulls, ordinals_rise, IsStart, IsField, IsEvent}
+use Rattle.format_event.specs.Leaf.{type_bytes, value_bytes, column_bytes, columns_bytes, start_bytes, op_of, encoded, event_bytes, has_value, without_nulls, ordinals_rise, IsPair, IsField, IsEvent}
 use Rattle.format_event.specs.LeafReading.{type_at, value_of, field, field_of, column_at, columns_at, Head, head_at, some_start, start_at, event_of, event_at}
 use Rattle.format_event.proofs.TypeLaws.{FitsFields, type_exact, in_range_fits}
 use Rattle.format_event.proofs.Sizes.{value_small}
@@ -69,13 +69,15 @@ columns_exact = where_exact (λ (fs : List EventField). (length fs < 2 ^ 16) × 
 
 -- ---- the start pair
 
-abbrev FitPair : ℕ × ℕ → Type 0
-FitPair p = (p.0 < 2 ^ 64) × (p.1 < 2 ^ 64)
+-- a start has no start pair, and an end has that of the version
+abbrev IsStart : ℕ → Option (ℕ × ℕ) → Type 0
+IsStart op None = op ≡ 1
+IsStart op (Some start) = (op ≡ 2) × IsPair start
 
 abbrev pair_bytes : ℕ × ℕ → List ℕ
 pair_bytes p = u64_field p.0 ++ u64_field p.1
 
-pair_exact : Exact FitPair pair_bytes (both u64_at u64_at)
+pair_exact : Exact IsPair pair_bytes (both u64_at u64_at)
 pair_exact = both_exact (λ (n : ℕ). n < 2 ^ 64) (λ (n : ℕ). n < 2 ^ 64) u64_field u64_field u64_at u64_at u64_exact u64_exact
 
 start_takes_by : (op : ℕ) (a b : Bool) → (op == 1) ≡ a → (op == 2) ≡ b → (bytes : List ℕ) (start : Option (ℕ × ℕ)) (rest : List ℕ) → IsBytes bytes
@@ -114,7 +116,7 @@ head_exact : Exact FitHead encode_head head_at
 unfolding head_at
 head_exact = after_exact (u8_field 1) FitHead (λ (h : Head). u32_field h.0 ++ (u8_field h.1.0 ++ (u64_field h.1.1.0 ++ u64_field h.1.1.1))) (both u32_at (both u8_at (both u64_at u64_at)))
     (both_exact (λ (n : ℕ). n < 2 ^ 32) (λ (x : ℕ × (ℕ × ℕ)). (x.0 < 256) × ((x.1.0 < 2 ^ 64) × (x.1.1 < 2 ^ 64))) u32_field (λ (x : ℕ × (ℕ × ℕ)). u8_field x.0 ++ (u64_field x.1.0 ++ u64_field x.1.1)) u32_at (both u8_at (both u64_at u64_at)) u32_exact
-    (both_exact (λ (n : ℕ). n < 256) FitPair u8_field pair_bytes u8_at (both u64_at u64_at) u8_exact pair_exact))
+    (both_exact (λ (n : ℕ). n < 256) IsPair u8_field pair_bytes u8_at (both u64_at u64_at) u8_exact pair_exact))
 
 abbrev Tail : Type 0
 Tail = Option (ℕ × ℕ) × List EventField
@@ -126,20 +128,48 @@ abbrev encode_tail : Head → Tail → List ℕ
 encode_tail h x = start_bytes x.0 ++ columns_bytes x.1
 
 abbrev whole_parts : Event → Head × Tail
-whole_parts e = ((e.table, (e.op, (e.tx, e.seq))), (e.start, e.columns))
+whole_parts e = ((e.table, (op_of e.ends, (e.tx, e.seq))), (e.ends, e.columns))
 
-op_small : (op : ℕ) (start : Option (ℕ × ℕ)) → IsStart op start → op < 256
-op_small op None is = omega arith
-op_small op (Some start) is = let two : op ≡ 2 = is.0 in omega arith
+op_small : (ends : Option (ℕ × ℕ)) → op_of ends < 256
+op_small None = omega arith
+op_small (Some start) = omega arith
+
+its_start : (ends : Option (ℕ × ℕ)) → IfSome ends IsPair → IsStart (op_of ends) ends
+its_start None pair = refl
+its_start (Some start) pair = (refl, pair)
+
+start_pair : (op : ℕ) (ends : Option (ℕ × ℕ)) → IsStart op ends → IfSome ends IsPair
+start_pair op None is = tt
+start_pair op (Some start) is = is.1
+
+op_is : (op : ℕ) (ends : Option (ℕ × ℕ)) → IsStart op ends → op ≡ op_of ends
+op_is op None is = is
+op_is op (Some start) is = is.0
+
+abbrev FitWhole : Head × Tail → Type 0
+FitWhole x = FitHead x.0 × FitTail x.0 x.1
+
+abbrev encode_whole : Head × Tail → List ℕ
+encode_whole x = encode_head x.0 ++ encode_tail x.0 x.1
+
+abbrev with_op : Head → ℕ → Head
+with_op h op = (h.0, (op, h.1.1))
+
+event_back : (x : Head × Tail) (e : Event) → IsBytes (encode_whole x) → FitWhole x → Some (event_of x) ≡ Some e → IsEvent e × (encode_whole x ≡ encoded e)
+event_back x e bytes f same =
+    let made : IsEvent (event_of x) = record { table = f.0.0; ends = start_pair x.0.1.0 x.1.0 f.1.0; tx = f.0.1.1.0; seq = f.0.1.1.1; count = f.1.1.0.0; columns = f.1.1.0.1; rise = f.1.1.1 } in
+    let told : encode_whole x ≡ encoded (event_of x) = ap (λ (op : ℕ). encode_head (with_op x.0 op) ++ encode_tail x.0 x.1) (op_is x.0.1.0 x.1.0 f.1.0) in
+    let P : Event → Type 0 = λ y. IsEvent y × (encode_whole x ≡ encoded y) in
+    subst P (some_is (event_of x) e same) (made, told)
 
 pub event_exact : Exact IsEvent encoded event_at
 unfolding event_at
-event_exact = mapped_exact (λ (x : Head × Tail). FitHead x.0 × FitTail x.0 x.1) IsEvent (λ (x : Head × Tail). encode_head x.0 ++ encode_tail x.0 x.1) encoded event_of whole_parts (depends head_at (λ (h : Head). both (start_at h.1.0) columns_at))
+event_exact = decoded_exact FitWhole IsEvent encode_whole encoded (λ (x : Head × Tail). Some (event_of x)) whole_parts (depends head_at (λ (h : Head). both (start_at h.1.0) columns_at))
     (record {
-      there = λ e. refl;
-      encoded = λ x. refl;
-      fit = λ x f. record { table = f.0.0; start = f.1.0; tx = f.0.1.1.0; seq = f.0.1.1.1; count = f.1.1.0.0; columns = f.1.1.0.1; rise = f.1.1.1 };
-      fit_back = λ e f. ((f.table, (op_small e.op e.start f.start, (f.tx, f.seq))), (f.start, ((f.count, f.columns), f.rise)));
+      there = λ e is. refl;
+      encoded = λ e is. refl;
+      fit_back = λ e f. ((f.table, (op_small e.ends, (f.tx, f.seq))), (its_start e.ends f.ends, ((f.count, f.columns), f.rise)));
+      back = event_back;
     })
     (depends_exact FitHead FitTail encode_head encode_tail head_at (λ (h : Head). both (start_at h.1.0) columns_at) head_exact
     (λ (h : Head). both_exact (IsStart h.1.0) Columns start_bytes columns_bytes (start_at h.1.0) columns_at (start_exact h.1.0) columns_exact))

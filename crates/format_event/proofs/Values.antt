@@ -8,8 +8,8 @@ use Rattle.spec_model.specs.Lists.{numbered}
 use Rattle.spec_model.specs.Events.{fields_at, fields_of}
 use Rattle.spec_model.specs.Rows.{EventId}
 use Rattle.format_event.specs.declared.event_ref.EventRef.{EventRef}
-use Rattle.format_event.specs.EventRef.{event_of, event_with, op_of}
-use Rattle.format_event.specs.Leaf.{encoded, event_bytes, has_value, HasLeaf, IsField, IsStart, rise_from}
+use Rattle.format_event.specs.EventRef.{event_of, event_with}
+use Rattle.format_event.specs.Leaf.{encoded, event_bytes, has_value, HasLeaf, IsField, IsPair, rise_from}
 use Rattle.format_event.specs.TypedBytes.{AreValues, IsTyped, IsValue}
 use Rattle.format_event.proofs.LeafExact.{all_told}
 use Rattle.format_event.proofs.Leaves.{leaf_again}
@@ -49,14 +49,6 @@ pub leaf_is : (e : EventRef) → AreValues e.values.now → encoded (event_of e)
 unfolding event_bytes
 leaf_is e are = rw (values_told e.values.now are) refl
 
--- a transaction and a number in 8 bytes each
-abbrev pub IsPair : EventId → Type 0
-IsPair id = (id.0 < 2 ^ 64) × (id.1 < 2 ^ 64)
-
-is_start : (ends : Option EventId) → IfSome ends IsPair → IsStart (op_of ends) ends
-is_start None pair = refl
-is_start (Some start) pair = (refl, pair)
-
 pub has_leaf : (table : ℕ) (id : EventId) (ends : Option EventId) (values : List (Option TypedValue)) → table < 2 ^ 32 → IsPair id → IfSome ends IsPair → AreValues values
     → HasLeaf (event_with table id ends values)
 has_leaf table id ends values small pair start are =
@@ -65,7 +57,7 @@ has_leaf table id ends values small pair start are =
     let short = are.0 in
     leaf_again (event_with table id ends values) (record {
       table = small;
-      start = is_start ends start;
+      ends = start;
       tx = pair.0;
       seq = pair.1;
       count = omega arith;

@@ -1,5 +1,5 @@
 -- The leaf of a row event: its one spelling in bytes.
-use Rattle.std.specs.Prelude.{FitsSigned, ◌≡◌, ◌<◌, ◌^◌, ◌&&◌, nat_lt, ℕ, ℤ, Bool, true, false, List, [], ◌∷◌, ◌++◌, length, filter, flat_map, Option, Some, None}
+use Rattle.std.specs.Prelude.{FitsSigned, ◌≡◌, ◌<◌, ◌^◌, ◌&&◌, nat_lt, ℕ, ℤ, Bool, true, false, List, [], ◌∷◌, ◌++◌, length, filter, flat_map, Option, Some, None, IfSome}
 use Rattle.std.specs.List.{AllByRecursion}
 use Rattle.std.specs.Str.{is_utf8}
 use Rattle.std.specs.Int.{w8, w32, w64}
@@ -54,10 +54,9 @@ has_value f = is_told f.value
 abbrev pub without_nulls : Event → Event
 without_nulls e = record {
   table = e.table;
-  op = e.op;
   tx = e.tx;
   seq = e.seq;
-  start = e.start;
+  ends = e.ends;
   columns = filter has_value e.columns;
 }
 
@@ -74,12 +73,17 @@ columns_bytes columns = u16_field (length columns) ++ flat_map column_bytes colu
 abbrev pub head_of : ℕ → ℕ → ℕ × ℕ → List ℕ
 head_of table op id = u8_field 1 ++ (u32_field table ++ (u8_field op ++ (u64_field id.0 ++ u64_field id.1)))
 
+-- 1 for a start, 2 for an end
+abbrev pub op_of : Option (ℕ × ℕ) → ℕ
+op_of None = 1
+op_of (Some start) = 2
+
 abbrev pub head_bytes : Event → List ℕ
-head_bytes e = head_of e.table e.op (e.tx, e.seq)
+head_bytes e = head_of e.table (op_of e.ends) (e.tx, e.seq)
 
 -- the head, for an end the start, and the columns
 abbrev pub encoded : Event → List ℕ
-encoded e = head_bytes e ++ (start_bytes e.start ++ columns_bytes e.columns)
+encoded e = head_bytes e ++ (start_bytes e.ends ++ columns_bytes e.columns)
 
 -- the leaf of an event: NULL columns are left out
 unfoldable pub event_bytes : Event → List ℕ
@@ -87,10 +91,9 @@ event_bytes e = encoded (without_nulls e)
 
 -- ---- which events have a leaf
 
--- a start has no start pair, and an end has that of the version
-abbrev pub IsStart : ℕ → Option (ℕ × ℕ) → Type 0
-IsStart op None = op ≡ 1
-IsStart op (Some start) = (op ≡ 2) × ((start.0 < 2 ^ 64) × (start.1 < 2 ^ 64))
+-- a transaction and a number in it, in 8 bytes each
+abbrev pub IsPair : ℕ × ℕ → Type 0
+IsPair id = (id.0 < 2 ^ 64) × (id.1 < 2 ^ 64)
 
 -- a text is UTF-8
 abbrev pub is_text : Value → Bool
@@ -115,7 +118,7 @@ ordinals_rise fs = rise_from 0 fs
 -- an event without NULL columns that has a leaf
 pub record IsEvent (e : Event) : Type 0 where
   pub table : e.table < 2 ^ 32
-  pub start : IsStart e.op e.start
+  pub ends : IfSome e.ends IsPair
   pub tx : e.tx < 2 ^ 64
   pub seq : e.seq < 2 ^ 64
   pub count : length e.columns < 2 ^ 16

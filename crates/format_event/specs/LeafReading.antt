@@ -97,7 +97,7 @@ start_at op bytes =
 
 abbrev pub event_of : Head × (Option (ℕ × ℕ) × List EventField) → Event
 event_of x =
-    record { table = x.0.0; op = x.0.1.0; tx = x.0.1.1.0; seq = x.0.1.1.1; start = x.1.0; columns = x.1.1 }
+    record { table = x.0.0; tx = x.0.1.1.0; seq = x.0.1.1.1; ends = x.1.0; columns = x.1.1 }
 
 unfoldable pub event_at : Reader Event
 event_at = mapped event_of (depends head_at (λ head. both (start_at head.1.0) columns_at))

@@ -3,7 +3,7 @@
 ghost use Rattle.std.specs.Prelude.{◌≡◌, ◌≤◌, ◌++◌, is_some, take, length, filter, flat_map, OnOk, OnErr};
 ghost use Rattle.base_fields.specs.Fields.{u16_field};
 ghost use Rattle.spec_model.specs.Events.{fields_of};
-ghost use Rattle.format_event.specs.EventRef.{event_of, op_of};
+ghost use Rattle.format_event.specs.EventRef.{event_of};
 ghost use Rattle.format_event.specs.Leaf.{encoded, event_bytes, columns_bytes, column_bytes};
 ghost use Rattle.format_event.specs.TypedBytes.{AreValues, IsTyped, typed_bytes};
 
@@ -46,19 +46,9 @@ fn put_parts(e: &EventRef, out: &mut Vec<u8>) -> Result<(), Memory>
     ensures ok { OnOk result (out.new.items ≡ out.old.items ++ encoded (event_of e.now)) }
     ensures grows { take (length out.old.items) out.new.items ≡ out.old.items }
 {
-    put_head(e.table, op_of(e.ends), e.id, out)?;
+    put_head(e.table, e.ends, e.id, out)?;
     put_start(e.ends, out)?;
     put_values(e.values, out)
-}
-
-// 1 for a start, 2 for an end.
-fn op_of(ends: Option<EventId>) -> u8
-    ensures { result ≡ op_of ends }
-{
-    match ends {
-        None => 1,
-        Some(_) => 2,
-    }
 }
 
 // How many of the values aren't NULL, and these, each with its ordinal.

@@ -3,7 +3,7 @@
 ghost use Rattle.std.specs.Prelude.{◌≡◌, ◌<◌, ◌^◌, ◌++◌, All, FitsSigned, take, length, filter, flat_map, OnOk, OnErr};
 ghost use Rattle.std.specs.Int.{w8, w32, w64};
 ghost use Rattle.base_fields.specs.Fields.{long_field, u32_field, signed_field, i128_field};
-ghost use Rattle.format_event.specs.Leaf.{event_bytes, encoded, head_of, without_nulls, columns_bytes, column_bytes, start_bytes, type_bytes, value_bytes, number_bytes, first_parameter, second_parameter, has_value, is_told, HasLeaf, IsField, IsFieldOrNull, FitsBytes, FitsNumber};
+ghost use Rattle.format_event.specs.Leaf.{event_bytes, encoded, head_of, op_of, without_nulls, columns_bytes, column_bytes, start_bytes, type_bytes, value_bytes, number_bytes, first_parameter, second_parameter, has_value, is_told, HasLeaf, IsField, IsFieldOrNull, FitsBytes, FitsNumber};
 
 use base_fields::{put_long, put_u8, put_u16, put_u32, put_u64};
 use base_types::{Memory, TableId};
@@ -32,17 +32,32 @@ fn put_parts(e: &Event, out: &mut Vec<u8>) -> Result<(), Memory>
     ensures ok { OnOk result (out.new.items ≡ out.old.items ++ encoded (without_nulls e.now)) }
     ensures grows { take (length out.old.items) out.new.items ≡ out.old.items }
 {
-    put_head(e.table, e.op, (e.tx, e.seq), out)?;
-    put_start(e.start, out)?;
+    put_head(e.table, e.ends, (e.tx, e.seq), out)?;
+    put_start(e.ends, out)?;
     put_columns(e.columns.as_slice(), out)
 }
 
-pub(crate) fn put_head(table: TableId, op: u8, id: EventId, out: &mut Vec<u8>) -> Result<(), Memory>
-    ensures ok { OnOk result (out.new.items ≡ out.old.items ++ head_of table op id) }
+pub(crate) fn put_head(
+    table: TableId,
+    ends: Option<EventId>,
+    id: EventId,
+    out: &mut Vec<u8>,
+) -> Result<(), Memory>
+    ensures ok { OnOk result (out.new.items ≡ out.old.items ++ head_of table (op_of ends) id) }
     ensures grows { take (length out.old.items) out.new.items ≡ out.old.items }
 {
-    out.extend_from_slice(&head_of(table, op, id))?;
+    out.extend_from_slice(&head_of(table, op_of(ends), id))?;
     Ok(())
+}
+
+// 1 for a start, 2 for an end.
+fn op_of(ends: Option<EventId>) -> u8
+    ensures { result ≡ op_of ends }
+{
+    match ends {
+        None => 1,
+        Some(_) => 2,
+    }
 }
 
 // One array, so that the head is appended at once.

@@ -11,7 +11,7 @@ use crate::value_reading::value_of;
 use base_fields::{ReadError, literal, long_at, u8_at, u16_at, u32_at, u64_at, whole};
 use base_types::{Items, Memory};
 use sql_scalar::fits;
-use sql_types::{Event, EventField};
+use sql_types::{Event, EventField, EventId};
 use sql_value::{SqlType, type_parts};
 use std::alloc::Global;
 
@@ -33,21 +33,21 @@ fn event_at(alloc: Global, bytes: &[u8]) -> Result<(Event, &[u8]), ReadError>
     let (op, rest) = u8_at(rest)?;
     let (tx, rest) = u64_at(rest)?;
     let (seq, rest) = u64_at(rest)?;
-    let (start, rest) = start_at(op, rest)?;
+    let (ends, rest) = start_at(op, rest)?;
     let (columns, rest) = columns_at(alloc, rest)?;
     let e = Event {
         table,
-        op,
         tx,
         seq,
-        start,
+        ends,
         columns,
     };
     Ok((e, rest))
 }
 
+// For an end, the event that started the version.
 #[tactic(auto, unfolding(crate::specs::LeafReading::start_at))]
-fn start_at(op: u8, bytes: &[u8]) -> Result<(Option<(u64, u64)>, &[u8]), ReadError>
+fn start_at(op: u8, bytes: &[u8]) -> Result<(Option<EventId>, &[u8]), ReadError>
     ensures { ReadsAs (λ x. (x.0, x.1.now)) result (start_at op bytes.now) }
 {
     match op {

@@ -50,7 +50,7 @@ module _ (tx table : ℕ) where
   end_counted : (n : ℕ) (v : Version) (o : Option EventId) → occurs n (own (end_events table v o)) ≡ ends_with (tx, n) o
   unfolding occurs
   end_counted n v None = refl
-  end_counted n v (Some e) = (let c = one_counted n (record { table = table; op = 2; tx = e.0; seq = e.1; start = Some v.start; columns = (start_event table v).columns }) [] in omega (arith, c))
+  end_counted n v (Some e) = (let c = one_counted n (record { table = table; tx = e.0; seq = e.1; ends = Some v.start; columns = (start_event table v).columns }) [] in omega (arith, c))
 
   version_counted : (n : ℕ) (v : Version) → occurs n (of_one v) ≡ count_in (tx, n) v
   version_counted n v = (let s = one_counted n (start_event table v) (end_events table v v.end) in let e = end_counted n v v.end in omega (arith, s, e))

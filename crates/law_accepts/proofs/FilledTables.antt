@@ -64,15 +64,15 @@ module _ (columns : List ColumnDef) where
   -- ---- events
 
   module _ (table : ℕ) where
-    abbrev event : Version → ℕ → EventId → Option EventId → List EventField → Event
-    event v op id start fields = record { table = table; op = op; tx = id.0; seq = id.1; start = start; columns = fields }
+    abbrev event : EventId → Option EventId → List EventField → Event
+    event id ends fields = record { table = table; tx = id.0; seq = id.1; ends = ends; columns = fields }
 
     same_end : (v : Version) (o : Option EventId) → end_events table (filled v) o ≡ end_events table v o
     same_end v None = refl
-    same_end v (Some e) = ap (λ (fs : List EventField). event v 2 e (Some v.start) fs ∷ []) (filled_fields columns v.values)
+    same_end v (Some e) = ap (λ (fs : List EventField). event e (Some v.start) fs ∷ []) (filled_fields columns v.values)
 
     same_start : (v : Version) → start_event table (filled v) ≡ start_event table v
-    same_start v = ap (event v 1 v.start None) (filled_fields columns v.values)
+    same_start v = ap (event v.start None) (filled_fields columns v.values)
 
     same_events_of : (vs : List Version) → flat_map (version_events table) (map filled vs) ≡ flat_map (version_events table) vs
     same_events_of [] = refl

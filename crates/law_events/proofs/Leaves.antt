@@ -67,7 +67,7 @@ module _ (columns : List ColumnDef) (few : length columns ≤ 64) where
 
   leaf_of : (table : ℕ) (id : EventId) (ends : Option EventId) (values : List (Option TypedValue)) → FitsSoFar columns values → FitsLeaf (event_with table id ends values)
   leaf_of table id ends values fits room =
-      has_leaf table id ends values room.table (room.tx, room.seq) room.start (are_values columns values few fits (texts_of 1 values room.texts))
+      has_leaf table id ends values room.table (room.tx, room.seq) room.ends (are_values columns values few fits (texts_of 1 values room.texts))
 
   pub ends_leaf : (table : ℕ) (v : Version) (o : Option EventId) → Suits v → AllByRecursion FitsLeaf (end_events table v o)
   ends_leaf table v (Some e) fit = (leaf_of table e (Some v.start) v.values fit, tt)

@@ -3,11 +3,7 @@ use Rattle.std.specs.Prelude.{ℕ, ◌≡◌, ◌<◌, ◌^◌, true, List, IfSo
 use Rattle.std.specs.List.{AllByRecursion}
 use Rattle.sql_types.specs.declared.event.Event.{Event}
 use Rattle.sql_types.specs.declared.event.EventField.{EventField}
-use Rattle.format_event.specs.Leaf.{is_text, HasLeaf}
-
--- a transaction and a number that 8 bytes can tell
-abbrev pub IsSmall : ℕ × ℕ → Type 0
-IsSmall s = (s.0 < 2 ^ 64) × (s.1 < 2 ^ 64)
+use Rattle.format_event.specs.Leaf.{is_text, HasLeaf, IsPair}
 
 -- each text is UTF-8
 abbrev pub AreTexts : List EventField → Type 0
@@ -18,7 +14,7 @@ pub record FitsLeafFormat (e : Event) : Type 0 where
   pub table : e.table < 2 ^ 32
   pub tx : e.tx < 2 ^ 64
   pub seq : e.seq < 2 ^ 64
-  pub start : IfSome e.start IsSmall
+  pub ends : IfSome e.ends IsPair
   pub texts : AreTexts e.columns
 
 -- it has a leaf, where it has room in one

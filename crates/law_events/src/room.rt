@@ -2,12 +2,11 @@
 
 ghost use Rattle.std.specs.Prelude.{◌≡◌, true, IfSome};
 ghost use Rattle.std.specs.List.{AllByRecursion};
-ghost use Rattle.format_event.specs.Leaf.{is_text};
+ghost use Rattle.format_event.specs.Leaf.{is_text, IsPair};
 ghost use Rattle.format_event.specs.TypedBytes.{IsUtf8Text};
-ghost use Rattle.law_events.specs.Room.{IsSmall, AreTexts, FitsLeafFormat};
+ghost use Rattle.law_events.specs.Room.{AreTexts, FitsLeafFormat};
 
-use base_types::TxId;
-use sql_types::{Event, EventField, TypedValue};
+use sql_types::{Event, EventField, EventId, TypedValue};
 use sql_value::Value;
 
 /// Does nothing: it is there for its contract.
@@ -47,8 +46,8 @@ fn are_texts(columns: &[EventField])
 }
 
 /// Does nothing: it is there for its contract.
-fn is_small(start: Option<(TxId, u64)>)
-    ensures { IfSome start IsSmall }
+fn is_pair(ends: Option<EventId>)
+    ensures { IfSome ends IsPair }
 {}
 
 /// Does nothing: it is there for its contract.
@@ -58,7 +57,7 @@ fn has_room(event: &Event)
     let _table = event.table;
     let _tx = event.tx;
     let _seq = event.seq;
-    is_small(event.start);
+    is_pair(event.ends);
     are_texts(event.columns.as_slice());
 }
 

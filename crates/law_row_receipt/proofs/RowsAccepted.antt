@@ -73,7 +73,7 @@ told_again [] = refl
 told_again (f ∷ fs) = told_if (has_value f) f (filter has_value fs) refl (told_again fs)
 
 without_again : (e : Event) → without_nulls (without_nulls e) ≡ without_nulls e
-without_again e = ap (λ (fs : List EventField). record { table = e.table; op = e.op; tx = e.tx; seq = e.seq; start = e.start; columns = fs }) (told_again e.columns)
+without_again e = ap (λ (fs : List EventField). record { table = e.table; tx = e.tx; seq = e.seq; ends = e.ends; columns = fs }) (told_again e.columns)
 
 same_leaf : (e : Event) → event_bytes e ≡ event_bytes (without_nulls e)
 unfolding event_bytes

@@ -24,10 +24,9 @@ abbrev pub start_event : ℕ → Version → Event
 start_event table v =
     record {
       table = table;
-      op = 1;
       tx = v.start.0;
       seq = v.start.1;
-      start = None;
+      ends = None;
       columns = fields_of v.values;
     }
 
@@ -36,10 +35,9 @@ abbrev pub end_event : ℕ → Version → EventId → Event
 end_event table v end =
     record {
       table = table;
-      op = 2;
       tx = end.0;
       seq = end.1;
-      start = Some v.start;
+      ends = Some v.start;
       columns = fields_of v.values;
     }
 

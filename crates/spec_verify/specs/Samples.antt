@@ -285,10 +285,9 @@ abbrev pub start_t : ℕ → ℕ → Event
 start_t id v =
     record {
       table = 3;
-      op = 1;
       tx = 3;
       seq = 0;
-      start = None;
+      ends = None;
       columns =
           record { ordinal = 1; ty = Int; value = num id }
           ∷ record { ordinal = 2; ty = Int; value = num v } ∷ [];

@@ -107,10 +107,9 @@ fn start_event(alloc: Global, table: TableId, version: &Version) -> Result<Event
 {
     Ok(Event {
         table,
-        op: 1,
         tx: version.start.0,
         seq: version.start.1,
-        start: None,
+        ends: None,
         columns: fields_of(alloc, version.values.as_slice())?,
     })
 }
@@ -126,10 +125,9 @@ fn end_event(
 {
     Ok(Event {
         table,
-        op: 2,
         tx: end.0,
         seq: end.1,
-        start: Some(version.start),
+        ends: Some(version.start),
         columns: fields_of(alloc, version.values.as_slice())?,
     })
 }

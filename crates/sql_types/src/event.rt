@@ -1,19 +1,18 @@
 //! Row events: the starts and ends of the versions of rows, which are the leaves of the ledger's trees.
 
+use crate::version::EventId;
 use sql_value::{Items, SqlType, TableId, TxId, Value};
 
 /// The start or the end of a version of a row.
 #[derive(Debug, Drop)]
 pub struct Event {
     pub table: TableId,
-    /// 1 for a start (INSERT), 2 for an end (DELETE).
-    pub op: u8,
     /// The transaction that started or ended the version.
     pub tx: TxId,
     /// The number of the event in its transaction, from 0.
     pub seq: u64,
-    /// For an end, the transaction and the number that started the version.
-    pub start: Option<(TxId, u64)>,
+    /// For an end (DELETE), the event that started the version; none for a start (INSERT).
+    pub ends: Option<EventId>,
     /// The values of the version, by rising ordinal.
     pub columns: Items<EventField>,
 }

@@ -150,13 +150,15 @@ fn put_field(field: &EventField, page: &mut Page) {
     page.put_value(&field.value);
 }
 
-/// Puts the table, op, transaction, number and start of an event, and its columns.
+/// Puts the table of an event, 1 for a start and 2 for an end, its transaction and number, the start of what it ends,
+/// and its columns.
 fn put_event(e: &Event, page: &mut Page) {
-    for number in [e.table as u64, e.op as u64, e.tx, e.seq] {
+    let op = if e.ends.is_some() { 2 } else { 1 };
+    for number in [e.table as u64, op, e.tx, e.seq] {
         page.put_number(number);
         page.put(" ");
     }
-    page.put_shown(&e.start);
+    page.put_shown(&e.ends);
     for field in e.columns.as_slice() {
         put_field(field, page);
     }

@@ -1,6 +1,6 @@
 -- Worked examples: what is answered to small statements, closed by computation.
 use Rattle.std.proofs.Common.{◌≡◌, ◌∙◌, ℕ, List, refl, ap, sym, arith}
-use Rattle.std.specs.Prelude.{pos, negsuc, true, false, [], ◌∷◌, ◌++◌, codes, Some, None, replicate, map, Ok, Err}
+use Rattle.std.specs.Prelude.{pos, negsuc, true, false, [], ◌∷◌, ◌++◌, codes, Option, Some, None, replicate, map, Ok, Err}
 use Rattle.std.specs.Fmt.{digits}
 use Rattle.std.specs.Str.{chars}
 use Rattle.sql_value.specs.declared.value.Value.{Value}
@@ -261,7 +261,7 @@ pub its_history : answer (with_t (version 1 1 (2, 0) (Some (2, 1)) ∷ [])) (all
 unfolding chars meaning_of sum_of digits value_cmp raised utf16_units pointed printed is_in_range conversion_of find_part started ended key_places key_at key_cmp same_key has_live_row_at live_by_key_at rows_of holds key_fixed changed_all kept kept_row arranged is_duplicate inserted_rows versions_matched row_after_set row_changes insert_check values_check listed_check update_check sets_check delete_check row_statement_check select_check query_check total agg_value selected first_tables table_row column_rows index_rows table_def create_check index_check query_rows effect reply_lines reply_text
 its_history = refl
 
-pub its_events : map {B = ℕ × ℕ} (λ (e : Event). (e.op, e.seq)) (all_events 2 (with_t (version 1 1 (2, 0) (Some (2, 1)) ∷ []))) ≡ (1, 0) ∷ (2, 1) ∷ []
+pub its_events : map {B = Option (ℕ × ℕ) × ℕ} (λ (e : Event). (e.ends, e.seq)) (all_events 2 (with_t (version 1 1 (2, 0) (Some (2, 1)) ∷ []))) ≡ (None, 0) ∷ (Some (2, 0), 1) ∷ []
 unfolding first_tables all_events events_of
 its_events = refl
 

@@ -1,6 +1,6 @@
 //! Worked examples: what small statements do.
 
-ghost use Rattle.std.specs.Prelude.{◌≡◌, ℕ};
+ghost use Rattle.std.specs.Prelude.{◌≡◌, ℕ, Option};
 ghost use Rattle.std.specs.Prelude.{◌+◌, pos, negsuc, true, false, [], ◌∷◌, ◌++◌, codes, Some, None, replicate, map, Err};
 ghost use Rattle.sql_value.specs.declared.value.Value.TheVariants as val;
 ghost use Rattle.sql_value.specs.declared.value.Value.TheVariants.{Null, Num, Text};
@@ -143,8 +143,8 @@ pub fn events_are_numbered()
         ≡ record { tables = with_t (version 1 1 (2, 0) (Some (2, 1)) ∷ []); seq = 2; reply = r.Changed 1 } }
     ensures its_history { answer (with_t (version 1 1 (2, 0) (Some (2, 1)) ∷ []))
         (all_of (codes "MSSQL_LedgerHistoryFor_3")) ≡ codes "1|1|2|2|0|1" ∷ codes "1 rows" ∷ [] }
-    ensures its_events { map {B = ℕ × ℕ} (λ (e : Event). (e.op, e.seq))
-        (all_events 2 (with_t (version 1 1 (2, 0) (Some (2, 1)) ∷ []))) ≡ (1, 0) ∷ (2, 1) ∷ [] }
+    ensures its_events { map {B = Option (ℕ × ℕ) × ℕ} (λ (e : Event). (e.ends, e.seq))
+        (all_events 2 (with_t (version 1 1 (2, 0) (Some (2, 1)) ∷ []))) ≡ (None, 0) ∷ (Some (2, 0), 1) ∷ [] }
     ensures written_names { defs_of (effect first_tables 1 0 create_balance).tables ≡ defs_of first_tables
         ++ def_balance ∷ [] }
     ensures units_kept { effect (balance []) 2 0
