@@ -15,8 +15,9 @@ use Rattle.spec_ledger.specs.Parts.{IsBlockOf}
 use Rattle.format_image.specs.ImageBytes.{IsPlaceless}
 use Rattle.spec_verify.specs.Blocks.{entries_before}
 use Rattle.audit_extract.specs.Meets.{Meets}
-use Rattle.audit_extract.specs.Parts.{blocks_to, entries_to}
+use Rattle.audit_extract.specs.Parts.{blocks_to}
 use Rattle.base_fields.proofs.Fronts.{fronts}
+use Rattle.spec_verify.specs.Covered.{entries_upto}
 use Rattle.audit_extract.proofs.Heads.{Heads, heads, sizes, sizes_are, take_parts}
 use Rattle.audit_extract.proofs.Lists.{cons_is, all_taken, all_left}
 
@@ -144,7 +145,7 @@ module _ (h : List ℕ → List ℕ) (Whole : Type 0) where
 
 -- at the first block
 pub all_left_first : (h : List ℕ → List ℕ) (i j : Image) (d : HeldDigest) → Meets h i d → Meets h j d → blocks_to i d.block ≡ blocks_to j d.block
-    → BlocksLeft h (entries_to i d.block ≡ entries_to j d.block) (blocks_to i d.block) i.entries j.entries
+    → BlocksLeft h (entries_upto i d.block ≡ entries_upto j d.block) (blocks_to i d.block) i.entries j.entries
 all_left_first h i j d m n same =
     let few = m.image.block_count in
     let l = length-take (d.block + 1) i.blocks in
@@ -165,9 +166,9 @@ all_left_first h i j d m n same =
     }
 
 pub all_left_at : (h : List ℕ → List ℕ) (i j : Image) (d : HeldDigest) (rest : List BlockRecord) (a b : List TxEntry) → Meets h i d → Meets h j d → blocks_to i d.block ≡ blocks_to j d.block
-    → rest ≡ blocks_to i d.block → a ≡ i.entries → b ≡ j.entries → BlocksLeft h (entries_to i d.block ≡ entries_to j d.block) rest a b
+    → rest ≡ blocks_to i d.block → a ≡ i.entries → b ≡ j.entries → BlocksLeft h (entries_upto i d.block ≡ entries_upto j d.block) rest a b
 all_left_at h i j d rest a b m n same rest_is a_is b_is =
-    let W = entries_to i d.block ≡ entries_to j d.block in
+    let W = entries_upto i d.block ≡ entries_upto j d.block in
     subst (λ (rs : List BlockRecord). BlocksLeft h W rs a b) (sym rest_is)
     (subst (λ (t : List TxEntry). BlocksLeft h W (blocks_to i d.block) t b) (sym a_is)
     (subst (λ (t : List TxEntry). BlocksLeft h W (blocks_to i d.block) i.entries t) (sym b_is) (all_left_first h i j d m n same)))

@@ -22,13 +22,13 @@ use Rattle.law_frame.proofs.Alls.{all_filter}
 use Rattle.format_image.specs.ImageBytes.{IsImage}
 use Rattle.format_image.specs.Tables.{tables_in}
 use Rattle.spec_verify.specs.Blocks.{hash_before}
-use Rattle.spec_verify.specs.Covered.{TableEvents, told_in, CoveredEntry, covered_entry, covered_of}
+use Rattle.spec_verify.specs.Covered.{TableEvents, told_in, CoveredEntry, covered_entry, covered_of, entries_upto}
 use Rattle.spec_verify.specs.Collision.{Collides}
 use Rattle.audit_extract.specs.declared.found.Collision.{Collision}
 use Rattle.audit_extract.specs.Hashed.{half, hashed}
 use Rattle.audit_extract.specs.Leaves.{leaves_in}
 use Rattle.audit_extract.specs.Meets.{Meets}
-use Rattle.audit_extract.specs.Parts.{blocks_to, entries_to}
+use Rattle.audit_extract.specs.Parts.{blocks_to}
 use Rattle.audit_extract.specs.Strings.{AreAtNode, AreOfEntries, AreOfEvents, AreHashed, AreRecords, HasCollisionIn}
 use Rattle.audit_extract.proofs.Agreeing.{Injective, RootsOf, events_from_leaves}
 use Rattle.audit_extract.proofs.Covering.{entries_rooted}
@@ -231,22 +231,22 @@ module _ (h : List ℕ → List ℕ) where
 
     -- ---- two images that meet a digest
 
-    covered_by_entries : Injective → (i j : Image) (d : HeldDigest) → Meets h i d → Meets h j d → entries_to i d.block ≡ entries_to j d.block → (covered_of i d.block ≡ covered_of j d.block) ⊎ HasCollisionOf h (AreOfEvents h i j)
+    covered_by_entries : Injective → (i j : Image) (d : HeldDigest) → Meets h i d → Meets h j d → entries_upto i d.block ≡ entries_upto j d.block → (covered_of i d.block ≡ covered_of j d.block) ⊎ HasCollisionOf h (AreOfEvents h i j)
     unfolding covered_of
     covered_by_entries one i j d m n same =
-        so_far (λ (s : map (covered_entry (tables_in i)) (entries_to i d.block) ≡ map (covered_entry (tables_in j)) (entries_to i d.block)). inl (s ∙ ap (map (covered_entry (tables_in j))) same))
-        (same_covered i j one (λ tx. all_shown tx i m.image) (λ tx. all_shown tx j n.image) (entries_to i d.block)
+        so_far (λ (s : map (covered_entry (tables_in i)) (entries_upto i d.block) ≡ map (covered_entry (tables_in j)) (entries_upto i d.block)). inl (s ∙ ap (map (covered_entry (tables_in j))) same))
+        (same_covered i j one (λ tx. all_shown tx i m.image) (λ tx. all_shown tx j n.image) (entries_upto i d.block)
         (entries_rooted_in i d m j) (subst (AllByRecursion (RootsOf h (tables_in i) (tables_in j) (tables_in j))) (sym same) (entries_rooted_in j d n i)))
       where
-        entries_rooted_in : (i : Image) (d : HeldDigest) → Meets h i d → (j : Image) → AllByRecursion (RootsOf h (tables_in i) (tables_in j) (tables_in i)) (entries_to i d.block)
+        entries_rooted_in : (i : Image) (d : HeldDigest) → Meets h i d → (j : Image) → AllByRecursion (RootsOf h (tables_in i) (tables_in j) (tables_in i)) (entries_upto i d.block)
         entries_rooted_in i d m j = entries_rooted h i d m
 
     pub one_history : Injective → (i j : Image) (d : HeldDigest) → Meets h i d → Meets h j d → (covered_of i d.block ≡ covered_of j d.block) ⊎ HasCollisionIn h i j
     one_history one i j d m n =
         so_far (λ (blocks : blocks_to i d.block ≡ blocks_to j d.block).
-        so_far (λ (entries : entries_to i d.block ≡ entries_to j d.block).
+        so_far (λ (entries : entries_upto i d.block ≡ entries_upto j d.block).
         told_so (AreOfEvents h i j) (AreHashed h i j) (λ c of. inr (inr of)) (covered_by_entries one i j d m n entries))
         (told_so (AreOfEntries h i j) (AreHashed h i j) (λ c of. inr (inl of))
-        (same_blocks i j d.block (entries_to i d.block ≡ entries_to j d.block) (blocks_to i d.block) i.entries j.entries
+        (same_blocks i j d.block (entries_upto i d.block ≡ entries_upto j d.block) (blocks_to i d.block) i.entries j.entries
         (all_left_first h i j d m n blocks) (behind_none i j d.block (blocks_to i d.block) i.entries j.entries blocks refl refl refl))))
         (told_so (AreRecords i j) (AreHashed h i j) (λ c of. inl of) (same_chain i j d (d.block + 1) m n (agreed_start h i j d m n)))

@@ -5,9 +5,10 @@ ghost use Rattle.std.specs.Prelude.{◌≡◌, ◌<◌, ◌^◌, All, map, lengt
 ghost use Rattle.std.specs.List.{AllByRecursion};
 ghost use Rattle.base_merkle.specs.TreeHash.{tree_hash};
 ghost use Rattle.format_entry.specs.Entry.{IsEntry, entry_bytes};
+ghost use Rattle.spec_verify.specs.Covered.{entries_upto};
 ghost use Rattle.audit_extract.specs.Finds.{Finds};
 ghost use Rattle.audit_extract.specs.Meets.{Meets};
-ghost use Rattle.audit_extract.specs.Parts.{blocks_to, entries_to};
+ghost use Rattle.audit_extract.specs.Parts.{blocks_to};
 ghost use Rattle.audit_extract.specs.Strings.{AreAtNode, AreOfEntries, OfCollision};
 
 use crate::found::ImageComparison;
@@ -30,7 +31,7 @@ pub(crate) fn in_blocks<H: Hash32>(
     requires suspect { Meets (H.digest h) suspect.now digest.now }
     requires same { blocks_to honest.now digest.now.block ≡ blocks_to suspect.now digest.now.block }
     ensures finds { IfOk result (Finds (H.digest h)
-        (entries_to honest.now digest.now.block ≡ entries_to suspect.now digest.now.block)) }
+        (entries_upto honest.now digest.now.block ≡ entries_upto suspect.now digest.now.block)) }
     ensures strings { IfOk result (OfCollision (AreOfEntries (H.digest h) honest.now suspect.now)) }
 {
     let mut rest = covered_blocks(honest, digest.block);

@@ -5,11 +5,10 @@ ghost use Rattle.std.specs.Prelude.{◌≡◌, ◌≤◌, ◌<◌, ◌+◌, ℕ,
 ghost use Rattle.std.specs.List.{AllByRecursion, sum_by};
 ghost use Rattle.base_merkle.specs.TreeHash.{tree_hash};
 ghost use Rattle.spec_verify.specs.Blocks.{entries_before};
-ghost use Rattle.spec_verify.specs.Covered.{covered_of};
+ghost use Rattle.spec_verify.specs.Covered.{covered_of, entries_upto};
 ghost use Rattle.audit_extract.specs.Finds.{Finds};
 ghost use Rattle.audit_extract.specs.Leaves.{HasRoots, IsRooted, SameTree, SameTrees, leaf_cmp, tree_of};
 ghost use Rattle.audit_extract.specs.Meets.{Meets};
-ghost use Rattle.audit_extract.specs.Parts.{entries_to};
 ghost use Rattle.audit_extract.specs.Strings.{AreAtNode, AreOfEvents, OfCollision};
 
 use crate::blocks::covered_blocks;
@@ -32,7 +31,7 @@ pub(crate) fn in_entries<H: Hash32>(
 ) -> Result<ImageComparison, Memory>
     requires honest { Meets (H.digest h) honest.now digest.now }
     requires suspect { Meets (H.digest h) suspect.now digest.now }
-    requires same { entries_to honest.now digest.now.block ≡ entries_to suspect.now digest.now.block }
+    requires same { entries_upto honest.now digest.now.block ≡ entries_upto suspect.now digest.now.block }
     ensures finds { IfOk result (Finds (H.digest h)
         (covered_of honest.now digest.now.block ≡ covered_of suspect.now digest.now.block)) }
     ensures strings { IfOk result (OfCollision (AreOfEvents (H.digest h) honest.now suspect.now)) }
@@ -49,7 +48,7 @@ pub(crate) fn in_entries<H: Hash32>(
 fn covered_entries(image: &Image, block: u64) -> &[TxEntry]
     requires block { block < length image.now.blocks }
     requires entries { entries_before image.now (block + 1) ≤ length image.now.entries }
-    ensures { result.now ≡ entries_to image.now block }
+    ensures { result.now ≡ entries_upto image.now block }
 {
     let count = entry_count(covered_blocks(image, block), image.entries.len());
     let (covered, _) = image.entries.as_slice().split_at(count);

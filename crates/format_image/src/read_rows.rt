@@ -1,13 +1,13 @@
 //! Reading the rows of tables.
 
-ghost use Rattle.std.specs.Prelude.{◌≡◌};
+ghost use Rattle.std.specs.Prelude.{◌≡◌, IfOk, []};
 ghost use Rattle.base_fields.specs.Readers.{times, for_each};
 ghost use Rattle.base_fields.specs.Reading.{Finds, ReadsAs};
 ghost use Rattle.format_image.specs.RowBytes.{comes_after, rise_after, starts_rise};
 ghost use Rattle.format_image.specs.ImageReading.{behind, value_behind, value_at, values_at, pair_at, base_at, history_at, base_rows_at, history_rows_at, index_rows_at, rows_at, table_at, tables_at};
 
 use base_fields::{ReadError, u8_at, u16_at, u64_at};
-use base_types::{Items, first_of};
+use base_types::{Items, Memory, first_of};
 use format_event::typed_at;
 use sql_types::{EventId, IndexDef, IndexRow, TableDef, TableRows, TypedValue, Version};
 use std::alloc::Global;
@@ -253,6 +253,13 @@ fn values_at(alloc: Global, bytes: &[u8]) -> Result<(Items<Option<TypedValue>>, 
     some_values(alloc, count, rest)
 }
 
+// Room for just so many values: an image has a list of them for each version.
+fn room_for(alloc: Global, count: u16) -> Result<Items<Option<TypedValue>>, Memory>
+    ensures { IfOk result (λ values. values ≡ []) }
+{
+    Ok(Items::from_vec(Vec::with_capacity(alloc, count.into())?))
+}
+
 fn some_values(
     alloc: Global,
     count: u16,
@@ -260,7 +267,7 @@ fn some_values(
 ) -> Result<(Items<Option<TypedValue>>, &[u8]), ReadError>
     ensures { ReadsAs (λ x. (x.0, x.1.now)) result (times value_at count bytes.now) }
 {
-    let mut values = Items::new(alloc);
+    let mut values = room_for(alloc, count)?;
     let mut rest = bytes;
     for _ in 0..count {
         let (value, after) = value_at(alloc, rest)?;
