@@ -23,7 +23,7 @@ use sql_value::{ColumnDef, SqlType, TableKind, Value, compare, type_parts};
 use std::alloc::Global;
 
 /// A value that a row is to have.
-#[derive(Clone, Copy, Debug)]
+#[derive(Clone, Copy)]
 pub enum ExpectedValue<'a> {
     Null,
     Number(i128),

@@ -48,10 +48,8 @@ fn all_of(alloc: Global, versions: &[Version]) -> Result<Vec<&Version>, Memory>
 fn copied<'a>(alloc: Global, rows: &[&'a Version]) -> Result<Vec<&'a Version>, Memory>
     ensures { IfOk result (λ found. rows_seen found.items ≡ rows_seen rows.now) }
 {
-    let mut found = Vec::with_capacity(alloc, rows.len())?;
-    for row in rows {
-        found.push(*row)?;
-    }
+    let mut found = Vec::new(alloc);
+    found.extend_from_slice(rows)?;
     Ok(found)
 }
 

@@ -321,7 +321,12 @@ fn read_arguments<'a>(
         return Ok(None);
     }
     match read_line(alloc, which, words)? {
-        Some(matches) => Ok(meaning_of(which, &matches)),
+        Some(matches) => {
+            let meaning = meaning_of(which, &matches);
+            // `drop` lets each type go by a function of its own, which is proved once
+            drop(matches);
+            Ok(meaning)
+        }
         None => Ok(None),
     }
 }

@@ -85,10 +85,10 @@ fn matched<'a>(command: Command<'a>, words: &'a [String]) -> Result<Option<ArgMa
     match command.try_get_matches_from(words) {
         Ok(matches) => Ok(Some(matches)),
         Err(error) => {
-            if error.kind() == ErrorKind::OutOfMemory {
-                return Err(Memory);
-            }
-            Ok(None)
+            let lacks_memory = error.kind() == ErrorKind::OutOfMemory;
+            // `drop` lets each type go by a function of its own, which is proved once
+            drop(error);
+            if lacks_memory { Err(Memory) } else { Ok(None) }
         }
     }
 }

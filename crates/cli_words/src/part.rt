@@ -1,7 +1,7 @@
 //! What of a transaction a receipt shows.
 
 /// What of a transaction a receipt shows.
-#[derive(Clone, Copy, Debug, PartialEq, Eq)]
+#[derive(Clone, Copy)]
 pub enum Part {
     /// Its entry in the ledger.
     Entry,

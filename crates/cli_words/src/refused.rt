@@ -6,7 +6,7 @@ use base_types::MAX_TICKS;
 use std::fmt;
 
 /// What a value has to be.
-#[derive(Clone, Copy, Debug, PartialEq, Eq)]
+#[derive(Clone, Copy)]
 enum Form {
     /// A name that files are saved under.
     SaveName,
@@ -19,7 +19,7 @@ enum Form {
 }
 
 /// What is wrong with a word.
-#[derive(Clone, Copy, Debug, PartialEq, Eq)]
+#[derive(Clone, Copy)]
 enum Fault {
     NotGiven,
     NoCommand,
@@ -36,7 +36,7 @@ enum Fault {
 }
 
 /// A word that was refused, or one that is missing, and why.
-#[derive(Clone, Copy, Debug, PartialEq, Eq)]
+#[derive(Clone, Copy)]
 pub struct Refused<'a> {
     /// The option, or that whose value the word is.
     option: Option<&'a str>,

@@ -3,7 +3,7 @@ ghost use Rattle.std.specs.Prelude.{◌≡◌, map};
 ghost use Rattle.cli_words.specs.Subcommands.{name_of, operands_of, options_of, named};
 
 /// A word that names a command.
-#[derive(Clone, Copy, Debug, PartialEq, Eq)]
+#[derive(Clone, Copy)]
 pub enum Subcommand {
     /// Runs an input on one thread.
     Step,

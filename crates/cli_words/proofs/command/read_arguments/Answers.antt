@@ -16,7 +16,7 @@ pub returns-in-Some : goal.returns-in-Some
 returns-in-Some c =
     let W = drop 1 (map string_bytes c.args.words.now) in
     let finds = subst (λ (o : Option ArgMatches). Finds (uses_of (options_of c.args.which) (operands_of c.args.which) W) o) c.in-Some.is c.in_ok-matches.ensures in
-    c.meaning_of.ensures ∙ arguments_found c.args.which W c.in-Some.matches (dashes_are c.args.words.now ∙ sym c.has_dashes.ensures ∙ c.if-has_dashes.false) finds
+    c.meaning_of-meaning.ensures ∙ arguments_found c.args.which W c.in-Some.matches (dashes_are c.args.words.now ∙ sym c.has_dashes.ensures ∙ c.if-has_dashes.false) finds
 
 pub returns-in-None : goal.returns-in-None
 returns-in-None c =
