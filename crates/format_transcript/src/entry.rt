@@ -12,12 +12,12 @@ use sql_types::{EndLine, Reply};
 use std::alloc::Global;
 
 /// Appends the end line, if there is one.
-fn push_lines(alloc: Global, end: Option<EndLine>, transcript: &mut String) -> Result<(), Memory>
+fn push_lines(end: Option<EndLine>, transcript: &mut String) -> Result<(), Memory>
     ensures { OnOk result (string_bytes transcript.new
         ≡ string_bytes transcript.old ++ end_text (line_seen end)) }
 {
     match end {
-        Some(end) => push_line(alloc, end, transcript),
+        Some(end) => push_line(end, transcript),
         None => Ok(()),
     }
 }
@@ -33,9 +33,8 @@ fn push_answer(
     ensures { OnOk result (string_bytes transcript.new ≡ string_bytes transcript.old
         ++ entry_text session.now (statement text.now reply.now None)) }
 {
-    let head = format!(in alloc; "{session}: {text}\n")?;
+    write!(transcript, "{session}: {text}\n")?;
     let lines = indented_reply(alloc, reply)?;
-    transcript.push_str(head.as_str())?;
     transcript.push_str(lines.as_str())?;
     Ok(())
 }
@@ -55,22 +54,16 @@ pub fn push_statement(
         ++ entry_text session.now (statement text.now reply.now (line_seen end))) }
 {
     push_answer(alloc, session, text, reply, transcript)?;
-    push_lines(alloc, end, transcript)
+    push_lines(end, transcript)
 }
 
 /// Appends the entry of a session's end, where it ends a transaction. After an error nothing is said of the
 /// text.
 #[tactic(auto, using(crate::proofs::Entries::at_end))]
-pub fn push_end(
-    alloc: Global,
-    session: &str,
-    end: EndLine,
-    transcript: &mut String,
-) -> Result<(), Memory>
+pub fn push_end(session: &str, end: EndLine, transcript: &mut String) -> Result<(), Memory>
     ensures { OnOk result (string_bytes transcript.new ≡ string_bytes transcript.old
         ++ entry_text session.now (end_of_session (end_seen end))) }
 {
-    let head = format!(in alloc; "{session}: (end)\n")?;
-    transcript.push_str(head.as_str())?;
-    push_line(alloc, end, transcript)
+    write!(transcript, "{session}: (end)\n")?;
+    push_line(end, transcript)
 }

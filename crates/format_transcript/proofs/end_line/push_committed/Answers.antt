@@ -2,6 +2,4 @@ use Rattle.std.proofs.Common.{◌∙◌, ◌++◌, ap, append_assoc, string_byte
 use Rattle.format_transcript.proofs.end_line.push_committed.Goals as goal
 
 pub returns : goal.returns
-returns c =
-    c.in_ok-push_str.ensures.bytes
-    ∙ ap (λ l. string_bytes c.args.transcript.now ++ l) (c.as_str.ensures.value ∙ c.in_ok-line.ensures.ok ∙ simp append_assoc)
+returns c = c.in_ok-write.ensures.bytes ∙ ap (λ l. string_bytes c.args.transcript.now ++ l) (simp append_assoc)
