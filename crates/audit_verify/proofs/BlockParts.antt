@@ -1,10 +1,10 @@
 -- So many blocks of an image, from one place on.
-use Rattle.std.proofs.Common.{◌≡◌, ◌<◌, ◌≤◌, ◌+◌, ◌-◌, ℕ, suc, Bool, true, false, refl, sym, ap, ◌∙◌, List, [], ◌∷◌, ◌++◌, length, map, take, drop, get_or, arith, Option, Some, None}
+use Rattle.std.proofs.Common.{◌≡◌, ◌<◌, ◌≤◌, ◌+◌, ◌-◌, ℕ, suc, Bool, true, false, refl, sym, ap, ◌∙◌, List, [], ◌∷◌, length, map, take, drop, get_or, arith, Option, Some, None}
 use Rattle.std.specs.Prelude.{◌&&◌, nat_le}
 use Rattle.std.specs.List.{sum_by}
 use Rattle.std.specs.Str.{bytes_eq}
 use Rattle.std.proofs.lemmas.Bool.{lt-leb}
-use Rattle.std.proofs.lemmas.List.{length-drop, length-take-le}
+use Rattle.std.proofs.lemmas.List.{length-drop}
 use Rattle.std.proofs.lemmas.List.Sums.{sum_by_more, sum_by_more_le}
 use Rattle.base_merkle.specs.TreeHash.{tree_hash}
 use Rattle.format_entry.specs.Entry.{entry_bytes}
@@ -18,16 +18,7 @@ use Rattle.spec_verify.specs.Blocks.{block_fault, block_holds, entries_before, e
 use Rattle.spec_verify.specs.First.{first_from, unless}
 use Rattle.audit_definitions.proofs.Walks.{first_next}
 use Rattle.audit_verify.specs.BlockParts.{faulty_block}
-use Rattle.audit_verify.proofs.GroupsMerge.{or_else_assoc, side_by_side, take_whole}
-
-first_append : {A B : Type 0} (f : ℕ → A → Option B) (n : ℕ) (xs ys : List A)
-    → first_from f n (xs ++ ys) ≡ or_else (first_from f n xs) (first_from f (n + length xs) ys)
-first_append {A = A} f n [] ys = let same : n ≡ n + length {A = A} [] = omega arith in ap (λ (k : ℕ). first_from f k ys) same
-first_append f n (x ∷ xs) ys =
-    let behind : n + 1 + length xs ≡ n + length (x ∷ xs) = omega arith in
-    ap (or_else (f n x)) (first_append f (n + 1) xs ys)
-    ∙ or_else_assoc (f n x) (first_from f (n + 1) xs) (first_from f (n + 1 + length xs) ys)
-    ∙ ap (λ (k : ℕ). or_else (or_else (f n x) (first_from f (n + 1) xs)) (first_from f k ys)) behind
+use Rattle.audit_verify.proofs.FirstParts.{found_in_both as in_both_parts, whole_part}
 
 neither : (p : Bool) → (p && false) ≡ false
 neither true = refl
@@ -37,29 +28,15 @@ module _ (h : List ℕ → List ℕ) (i : Image) where
   abbrev found : ℕ → BlockRecord → Option Place
   found b r = unless (block_holds h i b r) (at.Block b)
 
-  -- of two parts that stand side by side, the first that has one
-  two_parts : (from a b middle n : ℕ) → from + a ≤ length i.blocks → middle ≡ from + a → n ≡ a + b
-      → or_else (faulty_block h i from a) (faulty_block h i middle b) ≡ faulty_block h i from n
-  two_parts from a b middle n within middle_is n_is =
-      let front : List BlockRecord = take a (drop from i.blocks) in
-      let long : length front ≡ a = length-take-le a (drop from i.blocks) (omega (arith, within, length-drop from i.blocks)) in
-      let place : middle ≡ from + length front = omega (arith, middle_is, long) in
-      ap (λ (k : ℕ). or_else (faulty_block h i from a) (first_from found k (take b (drop middle i.blocks)))) place
-      ∙ ap (λ (k : ℕ). or_else (first_from found from front) (first_from found (from + length front) (take b (drop k i.blocks)))) middle_is
-      ∙ sym (first_append found from front (take b (drop (from + a) i.blocks)))
-      ∙ ap (first_from found from) (sym (side_by_side from a b i.blocks))
-      ∙ ap (λ (k : ℕ). faulty_block h i from k) (sym n_is)
-
   -- what is found in both parts together
   pub found_in_both : (from a b middle n : ℕ) (x y z : Option Place) → x ≡ faulty_block h i from a → y ≡ faulty_block h i middle b → z ≡ or_else x y
       → from + a ≤ length i.blocks → middle ≡ from + a → n ≡ a + b → z ≡ faulty_block h i from n
-  found_in_both from a b middle n x y z first second both within middle_is n_is =
-      both ∙ ap (λ (o : Option Place). or_else o y) first ∙ ap (or_else (faulty_block h i from a)) second ∙ two_parts from a b middle n within middle_is n_is
+  found_in_both = in_both_parts found i.blocks
 
   -- of all blocks
   pub whole_chain : (n : ℕ) → n ≡ length i.blocks → faulty_block h i 0 n ≡ block_fault h i
   unfolding block_fault
-  whole_chain n e = ap (first_from found 0) (ap (λ (k : ℕ). take k i.blocks) e ∙ take_whole i.blocks)
+  whole_chain = whole_part found i.blocks
 
   module _ (b m n : ℕ) (r : BlockRecord) (more : List BlockRecord) (all : Option Place) (here : drop b i.blocks ≡ r ∷ more) (one : m ≡ suc n)
       (rest : first_from found b (take m (drop b i.blocks)) ≡ all) where

@@ -1,5 +1,5 @@
 -- What two groups of tables find that stand side by side, and what they find together.
-use Rattle.std.proofs.Common.{◌≡◌, ◌+◌, subst, ℕ, zero, suc, Bool, true, false, cond, List, [], ◌∷◌, ◌++◌, length, map, flat_map, take, drop, refl, sym, ap, ap₂, ◌∙◌, arith, Option, Some, None}
+use Rattle.std.proofs.Common.{◌≡◌, ◌+◌, subst, ℕ, zero, suc, Bool, true, false, cond, List, [], ◌∷◌, ◌++◌, length, flat_map, take, drop, refl, sym, ap, ap₂, ◌∙◌, arith, Option, Some, None}
 use Rattle.std.specs.Ordering.{nat_cmp, is_gt}
 use Rattle.std.proofs.lemmas.List.{drop-drop, length-map}
 use Rattle.std.proofs.lemmas.List.Concat.{flat_map-append}
@@ -178,13 +178,11 @@ module _ (ts : List ImageTable) (i : Image) (shown : AreImageTables ts i) where
     all_indexes = faults.index ∙ ap (if_none f.version) (ap (λ (k : ℕ). index_in 0 k i) n_is ∙ whole_index)
 
     -- what is left, and what all tables show, are what the verdict asks for
-    pub all_roots : IsImage i → (ts_too : List ImageTable) (entries places : List TxEntry) (left : Option (Found Fault)) (root : Option Place)
-        → ts_too ≡ ts → entries ≡ i.entries → places ≡ i.entries
-        → left ≡ left_over (map table_of ts_too) entries → root ≡ fault_place places (merged left f.root) → root ≡ root_fault h i
-    all_roots is ts_too entries places left root ts_is entries_is places_is left_is root_is =
-        let tables = ap (map table_of) ts_is ∙ are_tables ts i shown in
+    pub all_roots : IsImage i → (places : List TxEntry) (left : Option (Found Fault)) (root : Option Place)
+        → places ≡ i.entries → left ≡ left_over (tables_in i) i.entries → root ≡ fault_place places (merged left f.root) → root ≡ root_fault h i
+    all_roots is places left root places_is left_is root_is =
         root_is
-        ∙ ap₂ (λ (es : List TxEntry) (l : Option (Found Fault)). fault_place es (merged l f.root)) places_is (left_is ∙ ap₂ left_over tables entries_is)
+        ∙ ap₂ (λ (es : List TxEntry) (l : Option (Found Fault)). fault_place es (merged l f.root)) places_is left_is
         ∙ ap (λ (r : Option (Found ℕ)). fault_place i.entries (merged (left_over (tables_in i) i.entries) r))
         (faults.root ∙ ap (λ (k : ℕ). wrong_root h (group_of 0 k i) i.entries) n_is ∙ ap (λ (g : Tables). wrong_root h g i.entries) whole_group)
         ∙ sym (fault_is_merged h i is)

@@ -1,5 +1,5 @@
 -- The hashes of some leaves, in parts of a list.
-use Rattle.std.proofs.Common.{◌≡◌, ◌∙◌, ◌+◌, ℕ, List, ◌∷◌, ◌++◌, append_assoc, length, map, take, drop, sym, ap}
+use Rattle.std.proofs.Common.{◌≡◌, ◌∙◌, ◌+◌, ℕ, List, ◌∷◌, ◌++◌, append_assoc, length, map, take, drop, sym, ap, ap₂}
 use Rattle.std.proofs.Math.Seq.{take-append_seam}
 use Rattle.std.proofs.lemmas.List.{drop-map, length-append, map-append, take-map}
 use Rattle.std.proofs.lemmas.Simd.{map-map}
@@ -60,3 +60,12 @@ hashes_next h marks part done n own slice before next parts long before_is own_i
     ∙ sym (map-append f (take done marks) part)
     ∙ ap (map f) (sym parts)
     ∙ ap (λ (k : ℕ). map f (take (done + k) marks)) (sym long)
+
+-- those of two parts
+pub hashes_of_both : (h : List ℕ → List ℕ) (marks a b : List Mark) (first second hashes : List (List ℕ)) → marks ≡ a ++ b
+    → first ≡ map (leaf_hash h) a → second ≡ map (leaf_hash h) b → hashes ≡ first ++ second → hashes ≡ map (leaf_hash h) marks
+hashes_of_both h marks a b first second hashes parts first_is second_is is =
+    is
+    ∙ ap₂ (λ (k l : List (List ℕ)). k ++ l) first_is second_is
+    ∙ sym (map-append (leaf_hash h) a b)
+    ∙ ap (map (leaf_hash h)) (sym parts)

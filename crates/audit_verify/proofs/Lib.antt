@@ -2,6 +2,7 @@ pub mod Bad
 pub mod BlockParts
 pub mod EntryPlaces
 pub mod EventIds
+pub mod FirstParts
 pub mod Fitting
 pub mod GroupParts
 pub mod Grouped

@@ -1,5 +1,5 @@
 -- Wrong roots of entries are told by the starts and ends of a group of tables.
-use Rattle.std.proofs.Common.{◌≡◌, ◌≤◌, ◌==◌, ℕ, zero, suc, Bool, true, false, List, [], ◌∷◌, length, map, filter, flat_map, take, drop, refl, sym, ap, ap₂, subst, ◌∙◌, arith, Option, Some, None}
+use Rattle.std.proofs.Common.{◌≡◌, ◌≤◌, ◌==◌, ◌+◌, ℕ, zero, suc, Bool, true, false, List, [], ◌∷◌, length, map, filter, flat_map, take, drop, refl, sym, ap, ap₂, subst, ◌∙◌, arith, Option, Some, None}
 use Rattle.std.specs.Prelude.{◌&&◌, ◌||◌, not, is_some}
 use Rattle.std.specs.List.{All}
 use Rattle.std.specs.Ordering.{nat_cmp}
@@ -12,19 +12,21 @@ use Rattle.sql_types.specs.declared.image.Image.{Image}
 use Rattle.spec_ledger.specs.Entries.{roots_of}
 use Rattle.spec_model.specs.Catalog.{Tables}
 use Rattle.spec_model.specs.Events.{events_of}
+use Rattle.spec_model.specs.Lists.{or_else}
 use Rattle.format_image.specs.ImageBytes.{IsImage}
 use Rattle.format_image.specs.Tables.{tables_in}
 use Rattle.law_catalog_rows.specs.Least.{least}
 use Rattle.spec_verify.specs.Entries.{TableRoot, root_at, same_root}
-use Rattle.spec_verify.specs.Groups.{first_found}
+use Rattle.spec_verify.specs.Groups.{Found, first_found, found_at}
 use Rattle.audit_verify.specs.declared.marks.Mark.{Mark}
 use Rattle.audit_verify.specs.declared.shown.ImageTable.{ImageTable}
 use Rattle.audit_verify.specs.Groups.{group_of, is_table, wrong_in, wrong_root}
 use Rattle.audit_verify.specs.Marks.{event_of, AreMarks, HaveEncodableValues}
 use Rattle.audit_verify.specs.Roots.{run_in, roots_in}
 use Rattle.audit_verify.specs.ImageTable.{IdsRise, rows_of, table_of, AreImageTables}
-use Rattle.audit_verify.specs.WrongRoots.{is_shown, wrong_roots, wrong_by_marks, wrong_told}
+use Rattle.audit_verify.specs.WrongRoots.{is_shown, wrong_roots, wrong_by_marks, wrong_part, wrong_told}
 use Rattle.audit_verify.proofs.EntryRoots.{filter_seen, ids_of_image}
+use Rattle.audit_verify.proofs.FirstParts.{found_in_both}
 use Rattle.audit_verify.proofs.Grouped.{run_is}
 use Rattle.audit_verify.proofs.TableFaults.{has, has_filter, has_append, has_roots, least_same, no_root, root_found, rooted, table_root, wrong_has}
 use Rattle.audit_verify.proofs.TableRoots.{roots_are}
@@ -129,3 +131,11 @@ module _ (h : List ℕ → List ℕ) (ts : Tables) (rise : IdsRise 0 ts) where
     pub told_is : (entries : List TxEntry) → wrong_told h ts ms entries ≡ wrong_root h ts entries
     unfolding wrong_root
     told_is entries = ap (λ (f : ℕ → TxEntry → Option ℕ). first_found f entries) (λ i k e. wrong_is e i)
+
+-- ---- parts of the entries
+
+module _ (h : List ℕ → List ℕ) (ts : Tables) (ms : List Mark) (es : List TxEntry) where
+  -- what is found in both parts together
+  pub wrong_in_both : (from a b middle n : ℕ) (x y z : Option (Found ℕ)) → x ≡ wrong_part h ts ms es from a → y ≡ wrong_part h ts ms es middle b
+      → z ≡ or_else x y → from + a ≤ length es → middle ≡ from + a → n ≡ a + b → z ≡ wrong_part h ts ms es from n
+  wrong_in_both = found_in_both (λ (k : ℕ) (e : TxEntry). found_at k (wrong_by_marks h ts ms e)) es

@@ -20,10 +20,9 @@ abbrev pub event_of : Mark → Event
 event_of m =
     record {
       table = m.table;
-      op = if m.is_end then 2 else 1;
       tx = m.event.0;
       seq = m.event.1;
-      start = if m.is_end then Some m.version.now.start else None;
+      ends = if m.is_end then Some m.version.now.start else None;
       columns = fields_of m.version.now.values;
     }
 

@@ -1,12 +1,13 @@
 -- Wrong roots of entries, told by the starts and ends of tables in order.
-use Rattle.std.specs.Prelude.{ℕ, ◌==◌, ◌&&◌, not, Bool, List, ◌++◌, map, Option}
+use Rattle.std.specs.Prelude.{ℕ, ◌==◌, ◌&&◌, not, Bool, List, ◌++◌, map, take, drop, Option}
 use Rattle.std.specs.List.{filter, list_any}
 use Rattle.std.specs.Ordering.{nat_cmp}
 use Rattle.sql_types.specs.declared.entry.TxEntry.{TxEntry}
 use Rattle.spec_model.specs.Catalog.{Tables}
 use Rattle.law_catalog_rows.specs.Least.{least}
 use Rattle.spec_verify.specs.Entries.{TableRoot, root_at, same_root}
-use Rattle.spec_verify.specs.Groups.{Found, first_found}
+use Rattle.spec_verify.specs.First.{first_from}
+use Rattle.spec_verify.specs.Groups.{Found, first_found, found_at}
 use Rattle.audit_verify.specs.declared.marks.Mark.{Mark}
 use Rattle.audit_verify.specs.declared.shown.ImageTable.{ImageTable}
 use Rattle.audit_verify.specs.Groups.{is_table}
@@ -30,3 +31,8 @@ module _ (h : List ℕ → List ℕ) (tables : Tables) (marks : List Mark) where
 
   abbrev pub wrong_told : List TxEntry → Option (Found ℕ)
   wrong_told entries = first_found (λ k e. wrong_by_marks e) entries
+
+  -- of so many entries, from the one at this place on
+  abbrev pub wrong_part : List TxEntry → ℕ → ℕ → Option (Found ℕ)
+  wrong_part entries from count =
+      first_from (λ (k : ℕ) (e : TxEntry). found_at k (wrong_by_marks e)) from (take count (drop from entries))

@@ -56,6 +56,15 @@ pub struct GroupFaults {
     pub index: Option<Place>,
 }
 
+/// What fails of the versions and the indexes of a group of tables.
+#[derive(Clone, Copy, Debug, PartialEq, Eq)]
+pub struct RowFaults {
+    /// As `GroupFaults` has it.
+    pub version: Option<Place>,
+    /// As `GroupFaults` has it.
+    pub index: Option<Place>,
+}
+
 /// What fails in so many tables of the image, from the one at place `from` on, where no id of an entry
 /// repeats and each start and end has its entry. What groups find of roots merges by the laws below. The only
 /// error is want of memory.
@@ -77,21 +86,64 @@ pub fn group_faults<H: Hash32>(
     ensures index { IfOk result (λ faults. faults.index
         ≡ spec.if_none faults.version (spec.index_in from count image.now)) }
 {
-    let system = first_tables(alloc)?;
-    let tables = shown_tables(alloc, &system, image)?;
-    let group = group_of(&tables, from, count);
-    let entries = image.entries.as_slice();
-    let root = root_in_group(alloc, hasher, entries, group)?;
-    let version = version_in_group(alloc, image, group)?;
-    let index = index_in_group(alloc, version, group)?;
+    let root = group_root(alloc, hasher, image, from, count)?;
+    let rows = group_rows(alloc, image, from, count)?;
     Ok(GroupFaults {
         root,
-        version,
-        index,
+        version: rows.version,
+        index: rows.index,
     })
 }
 
-fn group_of<'s, 'a>(tables: &'s [ImageTable<'a>], from: usize, count: usize) -> &'s [ImageTable<'a>]
+/// What fails of the roots in these tables.
+fn group_root<H: Hash32>(
+    alloc: Global,
+    hasher: H,
+    image: &Image,
+    from: usize,
+    count: usize,
+) -> Result<Option<(u64, TableId)>, Memory>
+    requires image { IsImage image.now }
+    requires within { from + count ≤ length image.now.tables }
+    ensures { IfOk result (λ root. root
+        ≡ spec.wrong_root (H.digest hasher) (spec.group_of from count image.now) image.now.entries) }
+{
+    let system = first_tables(alloc)?;
+    let tables = shown_tables(alloc, &system, image)?;
+    let group = group_of(&tables, from, count);
+    root_in_group(alloc, hasher, image.entries.as_slice(), group)
+}
+
+/// What fails of the versions and indexes of these tables.
+pub fn group_rows(
+    alloc: Global,
+    image: &Image,
+    from: usize,
+    count: usize,
+) -> Result<RowFaults, Memory>
+    requires image { IsImage image.now }
+    requires ids { id_fault image.now ≡ None }
+    requires within { from + count ≤ length image.now.tables }
+    ensures version { IfOk result (λ faults. faults.version
+        ≡ spec.version_in image.now.entries (rows_of_columns image.now.tables)
+        (spec.group_of from count image.now)) }
+    ensures index { IfOk result (λ faults. faults.index
+        ≡ spec.if_none faults.version (spec.index_in from count image.now)) }
+{
+    let system = first_tables(alloc)?;
+    let tables = shown_tables(alloc, &system, image)?;
+    let group = group_of(&tables, from, count);
+    let version = version_in_group(alloc, image, group)?;
+    let index = index_in_group(alloc, version, group)?;
+    Ok(RowFaults { version, index })
+}
+
+/// So many of these tables, from the one at place `from` on.
+pub fn group_of<'s, 'a>(
+    tables: &'s [ImageTable<'a>],
+    from: usize,
+    count: usize,
+) -> &'s [ImageTable<'a>]
     requires { from + count ≤ length tables.now }
     ensures { result.now ≡ take count (drop from tables.now) }
 {
@@ -114,7 +166,16 @@ fn root_in_group<H: Hash32>(
 {
     let marks = sorted_marks(alloc, tables)?;
     let hashes = leaf_hashes(alloc, hasher, &marks)?;
-    wrong_root(alloc, hasher, entries, tables, &marks, &hashes)
+    wrong_root(
+        alloc,
+        hasher,
+        entries,
+        tables,
+        &marks,
+        &hashes,
+        0,
+        entries.len(),
+    )
 }
 
 /// The least version of these tables that its table may not have, by all rows of the table of columns.
@@ -147,8 +208,8 @@ fn index_in_group(
     }
 }
 
-/// The place of the first entry whose roots, but for those of other tables, differ from the roots over its own
-/// marks; and the least table in which they do.
+/// The place of the first of so many entries, from the one at place `from` on, whose roots, but for those of
+/// other tables, differ from the roots over its own marks; and the least table in which they do.
 pub fn wrong_root<H: Hash32>(
     alloc: Global,
     hasher: H,
@@ -156,14 +217,18 @@ pub fn wrong_root<H: Hash32>(
     tables: &[ImageTable],
     marks: &[Mark],
     hashes: &[[u8; 32]],
+    from: usize,
+    count: usize,
 ) -> Result<Option<(u64, TableId)>, Memory>
     requires rise { IsNonDecreasingBy tx_of marks.now }
     requires hashes { hashes.now ≡ map (leaf_hash (H.digest hasher)) marks.now }
+    requires within { from + count ≤ length entries.now }
     ensures { IfOk result (λ found. found
-        ≡ told.wrong_told (H.digest hasher) (map table_of tables.now) marks.now entries.now) }
+        ≡ told.wrong_part (H.digest hasher) (map table_of tables.now) marks.now entries.now from count) }
 {
     let mut work = ScratchSpace::new(alloc);
-    for (k, entry) in entries.iter().enumerate() {
+    for k in from..from + count {
+        let entry = &entries[k];
         if let Some(table) = wrong_table(alloc, hasher, entry, tables, marks, hashes, &mut work)? {
             return Ok(Some((k as u64, table)));
         }

@@ -14,6 +14,7 @@ mod marks;
 mod merged;
 mod numbers;
 mod order;
+mod root_workers;
 mod roots;
 mod shown;
 mod verdict;

@@ -43,6 +43,19 @@ pub fn first_of_two(first: Option<Place>, second: Option<Place>) -> Option<Place
     }
 }
 
+/// The first of two entries, where there is one.
+pub fn first_root(
+    first: Option<(u64, TableId)>,
+    second: Option<(u64, TableId)>,
+) -> Option<(u64, TableId)>
+    ensures { result ≡ or_else first second }
+{
+    match first {
+        Some(found) => Some(found),
+        None => second,
+    }
+}
+
 fn lesser_root(a: Option<(u64, TableId)>, b: Option<(u64, TableId)>) -> Option<(u64, TableId)>
     ensures { result ≡ lesser_of (found_cmp nat_cmp) a b }
 {

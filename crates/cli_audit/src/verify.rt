@@ -70,11 +70,11 @@ fn judge<H: Hash32, R: Threads + Sync>(
     rt: &R,
     alloc: Global,
     h: H,
-    image: &[u8],
+    image: Vec<u8>,
     digests: &[u8],
     workers: u32,
 ) -> Result<Verdict, Status>
-    ensures verdict { IfOk result (IsVerdictOn (H.digest h) image.now digests.now) }
+    ensures verdict { IfOk result (IsVerdictOn (H.digest h) image.items digests.now) }
     ensures refused { IfErr result (λ status. AreRefused status digests.now) }
 {
     let held = read_held(alloc, digests)?;
@@ -105,8 +105,8 @@ fn judge_names<H: Hash32, V: Vault, R: Threads + Sync>(
     ensures unfailed { IfErr result
         (λ status. Unfailed status ⊤ (V.faults vault.new ≡ V.faults vault.old) ⊤) }
 {
-    let evidence = read_evidence(vault, image, digests)?;
-    judge(rt, alloc, h, &evidence.image, &evidence.digests, workers)
+    let Evidence { image, digests } = read_evidence(vault, image, digests)?;
+    judge(rt, alloc, h, image, &digests, workers)
 }
 
 /// The line that is written of a verdict.

@@ -1,11 +1,14 @@
-use Rattle.std.proofs.Common.{List, sym, ap, subst, map, ◌∙◌}
+use Rattle.std.proofs.Common.{ℕ, List, length, map, refl, sym, ap, subst, ◌∙◌}
 use Rattle.std.specs.List.{All}
 use Rattle.std.specs.List.Sorted.{IsNonDecreasingBy}
+use Rattle.sql_types.specs.declared.entry.TxEntry.{TxEntry}
 use Rattle.audit_verify.specs.declared.marks.Mark.{Mark}
 use Rattle.audit_verify.specs.Marks.{leaf_hash, tx_of, HasValues}
 use Rattle.audit_verify.specs.ImageTable.{table_of}
-use Rattle.audit_verify.specs.WrongRoots.{wrong_told}
+use Rattle.audit_verify.specs.WrongRoots.{wrong_by_marks, wrong_part}
+use Rattle.spec_verify.specs.Groups.{found_at}
 use Rattle.audit_definitions.proofs.Verdicts.{same_ok}
+use Rattle.audit_verify.proofs.FirstParts.{whole_part}
 use Rattle.audit_verify.proofs.WrongRoots.{told_is}
 use Rattle.audit_verify.proofs.groups.root_in_group.Goals as goal
 
@@ -26,5 +29,7 @@ returns g c =
     let ts = map table_of c.args.tables.now in
     let es = c.args.entries.now in
     same_ok c.wrong_root.result _ _
-    (ap (λ (ms : List Mark). wrong_told h ts ms es) c.deref-2.ensures.value ∙ told_is h ts c.requires.rise _ c.in_ok-marks.ensures es)
+    (ap (λ (ms : List Mark). wrong_part h ts ms es 0 (length es)) c.deref-2.ensures.value
+    ∙ whole_part (λ (k : ℕ) (e : TxEntry). found_at k (wrong_by_marks h ts c.in_ok-marks.marks.items e)) es (length es) refl
+    ∙ told_is h ts c.requires.rise _ c.in_ok-marks.ensures es)
     c.wrong_root.ensures

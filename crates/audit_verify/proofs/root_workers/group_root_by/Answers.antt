@@ -1,0 +1,28 @@
+use Rattle.std.proofs.Common.{List, ap, ap₂, take, drop, ◌∙◌}
+use Rattle.audit_verify.specs.declared.shown.ImageTable.{ImageTable}
+use Rattle.audit_verify.specs.Groups.{wrong_root}
+use Rattle.audit_definitions.proofs.Verdicts.{same_ok}
+use Rattle.audit_verify.proofs.WrongRoots.{within_shown, group_tables, group_spelled, group_rises}
+use Rattle.audit_verify.proofs.root_workers.group_root_by.Goals as goal
+
+pub group_of-group-requires : goal.group_of-group-requires
+group_of-group-requires g c = within_shown _ _ c.args.image.now _ c.in_ok-tables.ensures c.deref-2.ensures.value c.requires.within
+
+pub root_in_group_by-requires-clause-spelled : goal.root_in_group_by-requires-clause-spelled
+root_in_group_by-requires-clause-spelled g c κs within =
+    group_spelled _ _ c.args.image.now c.args.from c.args.count c.in_ok-tables.ensures c.requires.image
+    (c.group_of-group.ensures ∙ ap (λ (l : List ImageTable). take c.args.count (drop c.args.from l)) c.deref-2.ensures.value)
+
+pub root_in_group_by-requires-clause-rise : goal.root_in_group_by-requires-clause-rise
+root_in_group_by-requires-clause-rise g c κs within =
+    group_rises _ _ c.args.image.now c.args.from c.args.count c.in_ok-tables.ensures c.requires.image
+    (c.group_of-group.ensures ∙ ap (λ (l : List ImageTable). take c.args.count (drop c.args.from l)) c.deref-2.ensures.value)
+
+pub returns : goal.returns
+returns g c =
+    same_ok _ _ _
+    (ap₂ (wrong_root (g.H.Hash32.digest c.args.hasher))
+    (group_tables _ _ c.args.image.now c.args.from c.args.count c.in_ok-tables.ensures c.requires.image
+    (c.group_of-group.ensures ∙ ap (λ (l : List ImageTable). take c.args.count (drop c.args.from l)) c.deref-2.ensures.value))
+    c.as_slice.ensures)
+    c.root_in_group_by.ensures
