@@ -433,8 +433,8 @@ module _ {H : Type 0} (digest : H → List ℕ → List ℕ) (y : Seat H) (ready
 
   course_in : (q : Running H) (stage : Stage) (st : Stmt) → y.stmt ≡ Some st → refused_inside (Some st) ≡ None → IsCourseIn digest st r q stage
       → Steps digest h v s [] (then_seat y y.started y.text y.stmt (Some q) (Inside stage))
-  course_in q stage (stmt.Save name) e free c = subst (λ (k : Stage). Steps digest h v s [] (then_seat y y.started y.text y.stmt (Some q) (Inside k))) (sym c.2)
-      (saved_at q c.0 (stmt.Save name) e c.1 name refl (c.3 h o run_now.context))
+  course_in q stage (stmt.Save name) e free c = subst (λ (k : Stage). Steps digest h v s [] (then_seat y y.started y.text y.stmt (Some q) (Inside k))) (sym c.1.1)
+      (saved_at q c.0 (stmt.Save name) e c.1.0 name refl (c.1.2 h o run_now.context))
   course_in q stage (stmt.Rollback (Some name)) e free c = gone_back q c.0 (stmt.Rollback (Some name)) e stage name refl (c.1 h o run_now.context)
   course_in q stage (stmt.Rollback None) e free c = plain_by q stage (stmt.Rollback None) e tt free c
   course_in q stage (stmt.Create k) e free c = plain_by q stage (stmt.Create k) e tt free c

@@ -89,6 +89,10 @@ abbrev pub Saves : {H : Type 0} → (H → List ℕ → List ℕ) → Text → R
 Saves {H} digest name r q a = (h : H) (o : OpenTransaction) → Represents digest h r.context o
     → Saved digest h name o q.context a
 
+-- and stands answered then
+abbrev pub SavesThen : {H : Type 0} → (H → List ℕ → List ℕ) → Text → Running H → Running H → Stage → Type 0
+SavesThen digest name r q stage = (a : Answer) × (stage ≡ Answering a) × Saves digest name r q a
+
 -- where the way back to this number begins, of which this is the first cell
 abbrev pub back_by : ℕ → Option ℕ → Stage
 back_by seq None = Answering (said reply.Back)
@@ -127,8 +131,7 @@ stage_outside stmt.Image = Keeping
 stage_outside s = AssigningId false
 
 abbrev pub IsCourseIn : {H : Type 0} → (H → List ℕ → List ℕ) → Stmt → Running H → Running H → Stage → Type 0
-IsCourseIn digest (stmt.Save name) r q stage = SameBeside r q
-    × (a : Answer) × (stage ≡ Answering a) × Saves digest name r q a
+IsCourseIn digest (stmt.Save name) r q stage = SameBeside r q × SavesThen digest name r q stage
 IsCourseIn digest (stmt.Rollback (Some name)) r q stage = SameBeside r q × GoesBack digest name r q stage
 IsCourseIn digest s r q stage = (q ≡ r) × (stage ≡ stage_inside s)
 

@@ -3,15 +3,17 @@
 ghost use Rattle.std.specs.Prelude.{◌≡◌, true, IfOk, OnOk, Some};
 ghost use Rattle.sql_parse.specs.Text.{statement_of};
 ghost use Rattle.server_session.specs.Course as course;
-ghost use Rattle.server_session.specs.Course.{GoesBack, IsCourse, IsCourseIn, SameBeside, SameBy, Saves};
+ghost use Rattle.server_session.specs.Course.{GoesBack, IsCourse, IsCourseIn, SameBeside, SameBy, SavesThen};
 ghost use Rattle.server_session.specs.ControlPoints.{IsUnderWayAt};
 ghost use Rattle.server_session.specs.Rest.{HasScriptRoom};
 ghost use Rattle.server_session.specs.declared.stage.ControlPoint.TheVariants.{Inside};
+ghost use Rattle.server_session.specs.declared.stage.Stage.TheVariants.{Answering};
 ghost use Rattle.spec_protocol.specs.Answering as answering;
 
 use crate::needing::not_catalog;
+use crate::outcome::{said, stopped};
 use crate::running::Running;
-use crate::stage::{Answering, Stage};
+use crate::stage::Stage;
 use base_merkle::Hash32;
 use base_types::{Memory, Name};
 use sql_parse::{ParseErr, parse};
@@ -92,34 +94,19 @@ pub(crate) fn refusal_of(stmt: &Option<Stmt>, is_open: bool, images: usize) -> O
     }
 }
 
-// An answer that belongs to the script.
-fn said(reply: Reply) -> Answering
-    ensures { result ≡ course.said reply }
-{
-    Answering {
-        reply,
-        said: true,
-        def: None,
-    }
-}
-
 // A refusal, which belongs to the script but for want of memory.
-fn refused(refusal: Refusal) -> Answering
-    ensures { result ≡ course.refused refusal }
+fn refused(refusal: Refusal) -> Stage
+    ensures { result ≡ Answering (course.refused refusal) }
 {
     match refusal {
-        Refusal::NoMemory => Answering {
-            reply: Reply::Refused(Refusal::NoMemory),
-            said: false,
-            def: None,
-        },
+        Refusal::NoMemory => stopped(Refusal::NoMemory),
         refusal => said(Reply::Refused(refusal)),
     }
 }
 
 // What SAVE TRANSACTION is answered.
-fn save_answer(saved: Result<(), Refusal>) -> Answering
-    ensures { result ≡ course.save_answer saved }
+fn save_stage(saved: Result<(), Refusal>) -> Stage
+    ensures { result ≡ Answering (course.save_answer saved) }
 {
     match saved {
         Ok(()) => said(Reply::Saved),
@@ -128,13 +115,13 @@ fn save_answer(saved: Result<(), Refusal>) -> Answering
 }
 
 // Sets a savepoint.
-#[tactic(auto, using(crate::proofs::Savepoints::saved))]
-fn save<H: Hash32>(running: &mut Running<H>, name: &Name) -> Answering
+fn save<H: Hash32>(running: &mut Running<H>, name: &Name) -> Stage
     ensures same { SameBeside running.old running.new }
-    ensures saves { Saves H.digest name.now running.old running.new result }
+    ensures saves { SavesThen H.digest name.now running.old running.new result }
+    ensures on { IsUnderWayAt (Inside result) }
 {
     let saved = running.context.save(name);
-    save_answer(saved)
+    save_stage(saved)
 }
 
 // On the way back to this number, where there is such a cell to be visited first.
@@ -144,7 +131,7 @@ fn back_by(seq: u64, cell: Option<usize>) -> Stage
 {
     match cell {
         Some(_) => Stage::GoingBack { seq, passed: 0 },
-        None => Stage::Answering(said(Reply::Back)),
+        None => said(Reply::Back),
     }
 }
 
@@ -154,7 +141,7 @@ fn back_stage(went: Result<u64, Refusal>, cell: Option<usize>) -> Stage
 {
     match went {
         Ok(seq) => back_by(seq, cell),
-        Err(refusal) => Stage::Answering(refused(refusal)),
+        Err(refusal) => refused(refusal),
     }
 }
 
@@ -174,7 +161,7 @@ fn course_inside<H: Hash32>(stmt: &Stmt, running: &mut Running<H>) -> Stage
     ensures on { IsUnderWayAt (Inside result) }
 {
     match stmt {
-        Stmt::Save(name) => Stage::Answering(save(running, name)),
+        Stmt::Save(name) => save(running, name),
         Stmt::Rollback(Some(name)) => go_back(running, name),
         Stmt::Rollback(None) => Stage::RollingBack,
         Stmt::Commit => Stage::Committing,

@@ -7,11 +7,11 @@ ghost use Rattle.server_session.specs.Rest.{IsSeated};
 ghost use Rattle.server_session.specs.Steps.{StepsAlone};
 ghost use Rattle.server_session.specs.declared.need.NextVisit.TheVariants.{All};
 
+use crate::outcome::stopped;
 use crate::placing::put_point;
 use crate::seat::Seat;
-use crate::stage::{Answering, ControlPoint, Stage};
+use crate::stage::ControlPoint;
 use base_merkle::Hash32;
-use sql_types::Reply;
 use sql_value::Refusal;
 
 impl<H: Hash32> Seat<H> {
@@ -25,11 +25,7 @@ impl<H: Hash32> Seat<H> {
     {
         put_point(
             &mut self.point,
-            ControlPoint::Inside(Stage::Answering(Answering {
-                reply: Reply::Refused(Refusal::NoMemory),
-                said: false,
-                def: None,
-            })),
+            ControlPoint::Inside(stopped(Refusal::NoMemory)),
         );
     }
 }

@@ -6,6 +6,7 @@ mod going_on;
 mod lacking;
 mod need;
 mod needing;
+mod outcome;
 mod placing;
 mod rest;
 mod running;
@@ -17,8 +18,10 @@ mod starting;
 mod visited;
 
 pub use answer::{Answer, Answered, LastAnswer};
+pub use base_shared::Shared;
 pub use need::NextVisit;
 pub use needing::{CATALOG, LEDGER, cell_of, not_catalog};
+pub use outcome::{done, said, stopped, stopped_behind_lock, unsaid};
 pub use placing::put_point;
 pub use running::Running;
 pub use seat::Seat;

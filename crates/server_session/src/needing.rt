@@ -89,11 +89,11 @@ pub(crate) fn stage_need<H: Hash32>(stage: &Stage, running: &Option<Running<H>>)
             def,
             part: _,
             fresh: _,
-        } => NextVisit::Cell(cell_of(def.id)),
+        } => NextVisit::Cell(cell_of(def.get().id)),
         Stage::Made { def, indexed } => if *indexed {
             NextVisit::Cell(LEDGER)
         } else {
-            NextVisit::Cell(cell_of(def.id))
+            NextVisit::Cell(cell_of(def.get().id))
         },
         Stage::GoingBack { seq: _, passed } => cell_or_done(next_back(running, *passed)),
         Stage::Answering(_) => answer_need(running),

@@ -1,5 +1,6 @@
 //! Where a seat stands.
 
+use base_shared::Shared;
 use sql_types::{Part, Reply, TableDef};
 use sql_value::Refusal;
 
@@ -37,18 +38,18 @@ pub enum Stage {
     /// It passed its checks over this table, and changes or reads it. With true, its transaction had no lock
     /// in the catalog before.
     Found {
-        def: TableDef,
+        def: Shared<TableDef>,
         part: Part,
         fresh: bool,
     },
     /// CREATE INDEX made its rows. With true, the table's cell has the index, and it commits.
     Made {
-        def: TableDef,
+        def: Shared<TableDef>,
         indexed: bool,
     },
     /// There is no memory for the index.
     LacksIndex {
-        def: TableDef,
+        def: Shared<TableDef>,
     },
     /// On the way back to a savepoint: to this number, and so many cells were visited.
     GoingBack {
@@ -70,5 +71,5 @@ pub struct Answering {
     /// Whether it belongs to the script of the transaction.
     pub said: bool,
     /// Of a refused CREATE INDEX, whose index may have to be dropped.
-    pub def: Option<TableDef>,
+    pub def: Option<Shared<TableDef>>,
 }

@@ -9,6 +9,7 @@ ghost use Rattle.server_session.specs.ControlPoints.{IsBegun, IsBetween, IsUnder
 ghost use Rattle.server_session.specs.Steps.{Starts, StepsAlone};
 
 use crate::going_on::{make_room, refusal_of, statement_in, take_course};
+use crate::outcome::stopped;
 use crate::placing::{put_point, put_statement};
 use crate::seat::Seat;
 use crate::stage::{Answering, ControlPoint, Stage};
@@ -146,11 +147,7 @@ impl<H: Hash32> Seat<H> {
     {
         put_point(
             &mut self.point,
-            ControlPoint::Inside(Stage::Answering(Answering {
-                reply: Reply::Refused(Refusal::NoMemory),
-                said: false,
-                def: None,
-            })),
+            ControlPoint::Inside(stopped(Refusal::NoMemory)),
         );
     }
 }

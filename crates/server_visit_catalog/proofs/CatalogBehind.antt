@@ -11,9 +11,9 @@ use Rattle.sql_types.specs.declared.statement.Stmt.TheVariants as st
 use Rattle.spec_model.specs.Alter.{Altered}
 use Rattle.spec_model.specs.Refusals.{Checked}
 use Rattle.server_session.specs.Cells.{CatalogCell}
-use Rattle.server_visit_catalog.specs.InCatalog.{by_alter, by_drop, got_stage, lacking_stage, refused_stage, AlterFails, Alters, Creates, GoesAgain, IndexFails, IsAltered, IsIndex, IsLookedUp, IsRefused, IsStopped, IsTable, KeepsLock, Looked, LooksUp, TableFails}
+use Rattle.server_visit_catalog.specs.InCatalog.{by_alter, by_drop, got_stage, refused_stage, AlterFails, Alters, Creates, GoesAgain, IndexFails, IsAltered, IsIndex, IsLookedUp, IsRefused, IsStopped, IsTable, KeepsLock, Looked, LooksUp, TableFails}
 use Rattle.server_session.specs.ControlPoints.{IsBegunAt}
-use Rattle.server_session.specs.Stages.{done_stage}
+use Rattle.server_session.specs.Stages.{done_stage, stopped_behind_lock}
 use Rattle.server_visit_catalog.specs.declared.got.LookupResult.{LookupResult}
 use Rattle.server_visit_catalog.specs.declared.got.LookupResult.TheVariants as got
 use Rattle.server_session.specs.declared.running.Running.{Running}
@@ -28,7 +28,7 @@ done_behind : (explicit : Bool) (r : Reply) → IsBehind (done_stage explicit r)
 done_behind true r b = b
 done_behind false r b = b
 
-lacking_behind : (fresh : Bool) → IsBehind (lacking_stage fresh)
+lacking_behind : (fresh : Bool) → IsBehind (stopped_behind_lock fresh NoMemory)
 lacking_behind true b = b
 lacking_behind false b = b
 

@@ -43,12 +43,12 @@ use Rattle.server_session.specs.TablesAreSerial.{HasActed}
 use Rattle.server_session.specs.Visits.{alter_table, create_index, create_table, refuse_create}
 use Rattle.law_protocol_steps.proofs.CellsAfter.{were_here}
 use Rattle.store_catalog.specs.Calls.{HasAltered, HasIndex, HasTable, IndexMade, LocksTaken, MayCreate, TableAltered, TableMade}
-use Rattle.server_visit_catalog.specs.InCatalog.{stopped_stage, AlterFails, Creates, GoesAgain, HasMade, HasVisited, IndexFails, IsAltered, IsIndex, IsRefused, IsSame, IsTable, KeepsLock, MayLookFor, TableFails}
+use Rattle.server_visit_catalog.specs.InCatalog.{AlterFails, Creates, GoesAgain, HasMade, HasVisited, IndexFails, IsAltered, IsIndex, IsRefused, IsSame, IsTable, KeepsLock, MayLookFor, TableFails}
 use Rattle.server_session.specs.KeptCell.{catalog_seen}
 use Rattle.server_session.specs.Needs.{stage_visits}
 use Rattle.server_session.specs.Sits.{IsRunning, OfStmt, Sits, line_of}
 use Rattle.server_session.specs.Sits as sit
-use Rattle.server_session.specs.Stages.{done_stage}
+use Rattle.server_session.specs.Stages.{done_stage, stopped_stage}
 use Rattle.server_session.specs.Steps.{Among, IsVisit}
 use Rattle.server_session.specs.SessionOutput.{plainly}
 use Rattle.server_session.specs.VisitedCells.{IsTableCell, table_cell}

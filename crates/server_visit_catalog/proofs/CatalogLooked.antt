@@ -32,11 +32,11 @@ use Rattle.server_session.specs.Seats.{OpenTransaction, found, inside, SeatState
 use Rattle.server_session.specs.TablesAreSerial.{HasActed}
 use Rattle.server_session.specs.Visits.{look, read_system}
 use Rattle.store_catalog.specs.Calls.{LocksTaken}
-use Rattle.server_visit_catalog.specs.InCatalog.{got_stage, lacking_stage, refused_stage, stopped_stage, Gets, HasVisited, IsBlocked, IsFound, IsLookedUp, IsSame, IsShown}
+use Rattle.server_visit_catalog.specs.InCatalog.{got_stage, refused_stage, Gets, HasVisited, IsBlocked, IsFound, IsLookedUp, IsSame, IsShown}
 use Rattle.server_session.specs.KeptCell.{catalog_seen}
 use Rattle.server_session.specs.Needs.{stage_visits}
 use Rattle.server_session.specs.Sits.{IsOfRows, IsRunning, OfStmt, Sits, line_of}
-use Rattle.server_session.specs.Stages.{done_stage}
+use Rattle.server_session.specs.Stages.{done_stage, stopped_behind_lock, stopped_stage}
 use Rattle.server_session.specs.Steps.{Among, IsVisit}
 use Rattle.server_session.specs.SessionOutput.{IsPlain, plainly}
 use Rattle.server_session.specs.VisitedCells.{IsTableCell, table_cell}
@@ -109,7 +109,7 @@ module _ {H : Type 0} (q : Running H) where
   done_few true r = let few = end_few q.explicit q.end q.visited.left in omega (arith, few)
   done_few false r = omega arith
 
-  lacking_few : (b : Bool) → stage_visits (lacking_stage b) (Some q) ≤ length q.visited.left + 4
+  lacking_few : (b : Bool) → stage_visits (stopped_behind_lock b NoMemory) (Some q) ≤ length q.visited.left + 4
   lacking_few true = omega arith
   lacking_few false = let few = end_few q.explicit q.end q.visited.left in omega (arith, few)
 
@@ -214,14 +214,14 @@ module _ {H : Type 0} (digest : H → List ℕ → List ℕ) (y : Seat H) (c d :
         (sits_replied (reply.Refused e)) [] tt
         (adds_at a.s a.sits.x (Some (with_reply y.text (reply.Refused e) o1)) (inside y.text (stage_after i.o.explicit (reply.Refused e))) a.sits.role) tt
 
-    sits_lacking : (b : Bool) → Sits digest a.h (then_at_stage (lacking_stage b)) (sits a.s (at_place (Some o1) (inside y.text (stage_refused b (reply.Refused NoMemory))) a.sits.x))
+    sits_lacking : (b : Bool) → Sits digest a.h (then_at_stage (stopped_behind_lock b NoMemory)) (sits a.s (at_place (Some o1) (inside y.text (stage_refused b (reply.Refused NoMemory))) a.sits.x))
     sits_lacking true = sits_at digest a.h y a.s a.sits (Some q) (Some o1) (GivingBack NoMemory) running (λ free. script ∙ sym (append-nil (map line_of q.script.items))) room (i.unfixed, some_stmt digest y c a Looking i)
     sits_lacking false = sits_at digest a.h y a.s a.sits (Some q) (Some o1) (stopped_stage NoMemory) running (λ free. script ∙ sym (append-nil (map line_of q.script.items)))
         (λ said. absurd (let no : false ≡ true = said in cc)) (λ free. refl, λ own. refl)
 
     -- there is no memory behind the lock
-    lacks_memory : IsVisit digest y (catalog_seen c) a (catalog_seen d) (then_at_stage (lacking_stage fresh))
-    lacks_memory = visits_then digest y (catalog_seen c) a (catalog_seen d) (then_at_stage (lacking_stage fresh)) t1 (then_at t1 at1.stands (Some o1) (stage_refused fresh (reply.Refused NoMemory))) look (λ out. looks)
+    lacks_memory : IsVisit digest y (catalog_seen c) a (catalog_seen d) (then_at_stage (stopped_behind_lock fresh NoMemory))
+    lacks_memory = visits_then digest y (catalog_seen c) a (catalog_seen d) (then_at_stage (stopped_behind_lock fresh NoMemory)) t1 (then_at t1 at1.stands (Some o1) (stage_refused fresh (reply.Refused NoMemory))) look (λ out. looks)
         (more none (no_memory_then o1 at1 n fresh refl)) refl (λ out. plainly (tt, (tt, tt)) refl)
         (sits_lacking fresh) [] tt (adds_at a.s a.sits.x (Some o1) (inside y.text (stage_refused fresh (reply.Refused NoMemory))) a.sits.role) tt
 

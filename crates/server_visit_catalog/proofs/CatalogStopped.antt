@@ -20,7 +20,7 @@ use Rattle.server_session.specs.Seats.{answering, inside, SeatState}
 use Rattle.server_session.specs.Visits.{give_back, stop_in_catalog}
 use Rattle.server_session.specs.RequestsIn.{of_catalog}
 use Rattle.server_session.specs.Represents.{Represents}
-use Rattle.server_visit_catalog.specs.InCatalog.{stopped_stage}
+use Rattle.server_session.specs.Stages.{stopped_stage}
 use Rattle.server_session.specs.KeptCell.{catalog_seen}
 use Rattle.server_session.specs.Needs.{stage_visits}
 use Rattle.server_session.specs.Sits.{Sits, left_of, line_of, said_at, stage_seen}

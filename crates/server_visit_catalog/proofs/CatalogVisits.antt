@@ -17,7 +17,8 @@ use Rattle.server_session.specs.Doing.{Stopped}
 use Rattle.server_session.specs.Seats.{OpenTransaction}
 use Rattle.server_session.specs.RequestsIn.{of_catalog}
 use Rattle.server_session.specs.Represents.{Represents}
-use Rattle.server_visit_catalog.specs.InCatalog.{by_alter, by_drop, stopped_stage, AlterFails, Alters, Creates, IndexFails, IsAltered, IsIndex, IsLookedUp, IsRefused, IsStopped, IsTable, Looked, LooksUp, MayLookFor, TableFails}
+use Rattle.server_session.specs.Stages.{stopped_stage}
+use Rattle.server_visit_catalog.specs.InCatalog.{by_alter, by_drop, AlterFails, Alters, Creates, IndexFails, IsAltered, IsIndex, IsLookedUp, IsRefused, IsStopped, IsTable, Looked, LooksUp, MayLookFor, TableFails}
 use Rattle.server_session.specs.KeptCell.{catalog_seen}
 use Rattle.server_session.specs.Needs.{stage_visits}
 use Rattle.server_session.specs.ControlPoints.{KeepsStatement}

@@ -35,7 +35,7 @@ use Rattle.server_session.specs.Represents.{Represents}
 use Rattle.server_session.specs.Context.{TxCtx}
 use Rattle.store_catalog.specs.Calls.{left, undone, IndexMade, LocksTaken, MayCreate, TableAltered, TableMade}
 use Rattle.server_session.specs.Sits.{IsOfRows}
-use Rattle.server_session.specs.Stages.{done_stage}
+use Rattle.server_session.specs.Stages.{done_stage, stopped_behind_lock, stopped_stage}
 use Rattle.server_session.specs.VisitedCells.{VisitedCells}
 use Rattle.sql_types.specs.declared.end_line.EndLine.{EndLine}
 use Rattle.sql_types.specs.declared.end_line.EndLine.TheVariants.{Committed, Ended}
@@ -46,7 +46,7 @@ use Rattle.server_session.specs.declared.seat.Seat.{Seat}
 use Rattle.server_session.specs.declared.stage.ControlPoint.{ControlPoint}
 use Rattle.server_session.specs.declared.stage.ControlPoint.TheVariants.{Inside}
 use Rattle.server_session.specs.declared.stage.Stage.{Stage}
-use Rattle.server_session.specs.declared.stage.Stage.TheVariants.{Looking, Found, Made, Replied, GivingBack, Answering as Answered}
+use Rattle.server_session.specs.declared.stage.Stage.TheVariants.{Looking, Found, Made, Replied, GivingBack}
 
 -- ---- the seat
 
@@ -114,17 +114,9 @@ ReleasesNext _ = Unit {0}
 
 -- ---- stages
 
--- refused, and nothing is done
-abbrev pub stopped_stage : Refusal → Stage
-stopped_stage e = Answered (record { reply = reply.Refused e; said = false; def = None })
-
--- no memory behind the lock; with true, this is the transaction's first in the catalog
-abbrev pub lacking_stage : Bool → Stage
-lacking_stage true = GivingBack NoMemory
-lacking_stage false = stopped_stage NoMemory
-
+-- with true for `fresh`, the lock is the transaction's first in the catalog
 abbrev pub refused_stage : Bool → Bool → Refusal → Stage
-refused_stage explicit fresh NoMemory = lacking_stage fresh
+refused_stage explicit fresh NoMemory = stopped_behind_lock fresh NoMemory
 refused_stage explicit fresh e = done_stage explicit (reply.Refused e)
 
 abbrev pub got_stage : Bool → Bool → Checked LookupResult → Stage

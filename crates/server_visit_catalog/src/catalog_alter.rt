@@ -4,10 +4,10 @@ ghost use Rattle.store_catalog.specs.Calls.{MayCreate};
 ghost use Rattle.server_visit_catalog.specs.InCatalog.{by_alter, by_drop, Alters};
 
 use crate::catalog_create::refuse;
-use crate::catalog_look::{lock, stopped};
+use crate::catalog_look::lock;
 use base_merkle::Hash32;
 use base_types::Name;
-use server_session::{CATALOG, Running, Stage};
+use server_session::{CATALOG, Running, Stage, stopped};
 use sql_types::{Alter, Mode, Reply};
 use std::alloc::Global;
 use store_catalog::CatalogCell;

@@ -5,9 +5,9 @@ ghost use Rattle.sql_types.specs.declared.statement.Stmt.TheVariants as stmt;
 ghost use Rattle.store_catalog.specs.Calls.{MayCreate};
 ghost use Rattle.server_visit_catalog.specs.InCatalog.{MakesIndex, MakesTable, IsRefused};
 
-use crate::catalog_look::{lock, stopped};
+use crate::catalog_look::lock;
 use base_merkle::Hash32;
-use server_session::{CATALOG, Running, Stage};
+use server_session::{CATALOG, Running, Stage, stopped};
 use sql_types::{CreateIndex, CreateTable, Mode, Reply};
 use sql_value::Refusal;
 use std::alloc::Global;

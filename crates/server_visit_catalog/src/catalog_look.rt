@@ -11,14 +11,12 @@ ghost use Rattle.store_catalog.specs.Calls.{LocksTaken};
 ghost use Rattle.server_session.specs.Represents.{Represents};
 ghost use Rattle.server_visit_catalog.specs.InCatalog as spec;
 ghost use Rattle.server_visit_catalog.specs.InCatalog.{with_visited, Gets, LooksUp};
-ghost use Rattle.server_session.specs.Stages.{done_stage};
 
 use crate::got::LookupResult;
 use base_merkle::Hash32;
-use server_session::{Answering, CATALOG, Running, Stage};
+use server_session::{CATALOG, Running, Stage, done, stopped, stopped_behind_lock};
 use sql_check::{check_select, check_stmt, table_of};
 use sql_parts::Columns;
-use sql_system::copy_def;
 use sql_types::{Item, LockRequest, Mode, Part, Reply, RowStmt, Select};
 use sql_value::Refusal;
 use std::alloc::Global;
@@ -26,49 +24,11 @@ use store_catalog::CatalogCell;
 
 // ---- stages
 
-/// A statement is refused, of which nothing is done.
-pub(crate) fn stopped(e: Refusal) -> Stage
-    ensures { result ≡ spec.stopped_stage e }
-{
-    Stage::Answering(Answering {
-        reply: Reply::Refused(e),
-        said: false,
-        def: None,
-    })
-}
-
-/// A statement is done: in a transaction that BEGIN opened its reply is certain, one of its own has its end
-/// still to be fixed.
-fn done(explicit: bool, reply: Reply) -> Stage
-    ensures { result ≡ done_stage explicit reply }
-{
-    if explicit {
-        Stage::Answering(Answering {
-            reply,
-            said: true,
-            def: None,
-        })
-    } else {
-        Stage::Replied(reply)
-    }
-}
-
-// No memory behind the catalog's lock: a lock that is the transaction's first there is given back.
-fn lacking(fresh: bool) -> Stage
-    ensures { result ≡ spec.lacking_stage fresh }
-{
-    if fresh {
-        Stage::GivingBack(Refusal::NoMemory)
-    } else {
-        stopped(Refusal::NoMemory)
-    }
-}
-
 fn refused(explicit: bool, fresh: bool, e: Refusal) -> Stage
     ensures { result ≡ spec.refused_stage explicit fresh e }
 {
     match e {
-        Refusal::NoMemory => lacking(fresh),
+        Refusal::NoMemory => stopped_behind_lock(fresh, Refusal::NoMemory),
         e => done(explicit, Reply::Refused(e)),
     }
 }
@@ -129,8 +89,8 @@ pub(crate) fn look_up_for_change(
     let Some((def, part)) = catalog.look(table_of(row)) else {
         return Err(Refusal::NoSuchTable);
     };
-    check_stmt(alloc, row, def, part)?;
-    let def = copy_def(alloc, def)?;
+    check_stmt(alloc, row, def.get(), part)?;
+    let def = def.share()?;
     Ok(LookupResult::Table { def, part })
 }
 
@@ -154,8 +114,8 @@ pub(crate) fn look_up_for_select(
     if is_system(part) {
         return Ok(LookupResult::Rows(catalog.read(alloc, q)?));
     }
-    check_select(q, &Columns::of(def, part))?;
-    let def = copy_def(alloc, def)?;
+    check_select(q, &Columns::of(def.get(), part))?;
+    let def = def.share()?;
     Ok(LookupResult::Table { def, part })
 }
 

@@ -10,10 +10,10 @@ ghost use Rattle.server_session.specs.declared.stage.Stage.TheVariants.{GivingBa
 
 use crate::catalog_alter::{alter_table, drop_table};
 use crate::catalog_create::{make_index, make_table};
-use crate::catalog_look::{look_for_change, look_for_select, stopped};
+use crate::catalog_look::{look_for_change, look_for_select};
 use crate::catalog_release::leave_catalog;
 use base_merkle::Hash32;
-use server_session::{ControlPoint, Running, Seat, Stage, put_point};
+use server_session::{ControlPoint, Running, Seat, Stage, put_point, stopped};
 use sql_types::Stmt;
 use sql_value::Refusal;
 use std::alloc::Global;

@@ -15,7 +15,8 @@ use Rattle.law_protocol_steps.proofs.LedgerVisit.{lies_there}
 use Rattle.store_ledger.specs.HashedCell.{HashedCell, KeepsHash}
 use Rattle.server_session.specs.IsEnd.{IsEnd}
 use Rattle.server_visit_ledger.specs.LedgerSeen.{ledger_seen}
-use Rattle.server_visit_ledger.specs.LedgerMoves.{moved, unsaid}
+use Rattle.server_session.specs.Stages.{unsaid}
+use Rattle.server_visit_ledger.specs.LedgerMoves.{moved}
 use Rattle.server_session.specs.Needs.{point_need, cell_or_done, end_visits}
 use Rattle.server_session.specs.Sits.{IsRunning, Runs, IsControlPoint, IsStage, said_at, left_of, stage_seen}
 use Rattle.server_session.specs.Steps.{StepsAlone, Among}

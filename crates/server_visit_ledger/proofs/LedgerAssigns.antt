@@ -17,7 +17,8 @@ use Rattle.store_ledger.specs.HashedCell.{HashedCell}
 use Rattle.server_visit_ledger.specs.AssigningId.{assigned_id_stage}
 use Rattle.server_visit_ledger.specs.Drew.{Drew, IsNew}
 use Rattle.server_visit_ledger.specs.LedgerSeen.{ledger_seen}
-use Rattle.server_visit_ledger.specs.LedgerMoves.{work_of, stage_work, moved, unsaid, IsIdOf, HasAssignedId, VisitsOn}
+use Rattle.server_session.specs.Stages.{unsaid}
+use Rattle.server_visit_ledger.specs.LedgerMoves.{work_of, stage_work, moved, IsIdOf, HasAssignedId, VisitsOn}
 use Rattle.server_session.specs.Needs.{point_visits, stage_visits, answer_visits, end_visits}
 use Rattle.server_session.specs.ControlPoints.{IsSamePhase, IsBegunAt}
 use Rattle.server_session.specs.Sits.{Sits, Runs, OfStmt, IsStage, line_of}

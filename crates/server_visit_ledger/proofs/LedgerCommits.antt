@@ -31,7 +31,8 @@ use Rattle.server_session.specs.Roots.{Root, roots_of_trees}
 use Rattle.store_ledger.specs.Commits.{new_entry}
 use Rattle.store_ledger.specs.HashedCell.{HashedCell}
 use Rattle.server_visit_ledger.specs.LedgerSeen.{ledger_seen}
-use Rattle.server_visit_ledger.specs.LedgerMoves.{stage_work, work_of, moved, unsaid, without_index, committed_stage, ended_stage, lacking_stage, inside_with, IsIdOf, with_end, AreFixed, AreOwnFixed, IsOwnFixed, ended_after, committed_at, HasEnded, HasCommitted, HasLacked, VisitsOn, last_in, last_at, CommitsIt, IsLeftNothing}
+use Rattle.server_session.specs.Stages.{unsaid}
+use Rattle.server_visit_ledger.specs.LedgerMoves.{stage_work, work_of, moved, without_index, committed_stage, ended_stage, lacking_stage, inside_with, IsIdOf, with_end, AreFixed, AreOwnFixed, IsOwnFixed, ended_after, committed_at, HasEnded, HasCommitted, HasLacked, VisitsOn, last_in, last_at, CommitsIt, IsLeftNothing}
 use Rattle.server_visit_ledger.specs.LedgerMoves as moves
 use Rattle.server_session.specs.Needs.{visits_left, point_visits, end_visits, answer_visits}
 use Rattle.server_session.specs.ControlPoints.{KeepsStatement, IsSamePhase}

@@ -19,7 +19,8 @@ use Rattle.server_session.specs.Visits.{read_point}
 use Rattle.store_ledger.specs.HashedCell.{HashedCell}
 use Rattle.server_session.specs.IsEnd.{IsEnd}
 use Rattle.server_visit_ledger.specs.LedgerSeen.{ledger_seen}
-use Rattle.server_visit_ledger.specs.LedgerMoves.{stage_work, work_of, moved, unsaid, without_index, ended_stage, inside_with, IsIdOf, with_end, AreFixed, ended_after, HasEnded, VisitsOn}
+use Rattle.server_session.specs.Stages.{unsaid}
+use Rattle.server_visit_ledger.specs.LedgerMoves.{stage_work, work_of, moved, without_index, ended_stage, inside_with, IsIdOf, with_end, AreFixed, ended_after, HasEnded, VisitsOn}
 use Rattle.server_session.specs.Needs.{visits_left, point_visits, end_visits, end_need, point_need}
 use Rattle.server_session.specs.ControlPoints.{KeepsStatement, IsSamePhase, IsBegunAt}
 use Rattle.server_session.specs.Sits.{Sits, IsRunning, Runs, HasScriptCapacity, OfStmt, OfOpen, IsExplicit, IsOwn, IsControlPoint, IsAnswered, left_of, place_seen}

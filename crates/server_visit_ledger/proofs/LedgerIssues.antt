@@ -30,7 +30,8 @@ use Rattle.store_ledger.specs.declared.digest_err.DigestErr.{DigestErr}
 use Rattle.store_ledger.specs.declared.digest_err.DigestErr.TheVariants.{NoBlock, Memory}
 use Rattle.store_ledger.proofs.OfJournal.{issued_is_digest}
 use Rattle.server_visit_ledger.specs.LedgerSeen.{ledger_seen}
-use Rattle.server_visit_ledger.specs.LedgerMoves.{stage_work, work_of, moved, unsaid, digest_reply, VisitsOn}
+use Rattle.server_session.specs.Stages.{unsaid}
+use Rattle.server_visit_ledger.specs.LedgerMoves.{stage_work, work_of, moved, digest_reply, VisitsOn}
 use Rattle.server_session.specs.Needs.{visits_left, point_visits, answer_visits}
 use Rattle.server_session.specs.ControlPoints.{KeepsStatement, IsSamePhase}
 use Rattle.server_session.specs.Sits.{Runs, IsStage}

@@ -22,6 +22,7 @@ use Rattle.server_visit_ledger.specs.AssigningId.{assigned_id_stage}
 use Rattle.server_session.specs.KeptCell.{KeptCell}
 use Rattle.server_session.specs.ControlPoints.{KeepsStatement}
 use Rattle.server_session.specs.Sits.{line_of}
+use Rattle.server_session.specs.Stages.{stopped_stage, unsaid}
 use Rattle.server_session.specs.Steps.{ComesOn, Visits}
 use Rattle.sql_types.specs.declared.end_line.EndLine.{EndLine}
 use Rattle.sql_types.specs.declared.end_line.EndLine.TheVariants.{Committed, Ended}
@@ -70,10 +71,6 @@ moved y r p = record {
   point = p;
 }
 
--- a reply that doesn't come to the script of a transaction any more
-abbrev pub unsaid : Reply → Stage
-unsaid r = Answering (record { reply = r; said = false; def = None })
-
 -- there is no memory for an index, which may have to be dropped
 abbrev pub without_index : TableDef → Stage
 without_index def = Answering (record { reply = reply.Refused NoMemory; said = false; def = Some def })
@@ -97,7 +94,7 @@ ended_stage stage = stage
 -- without the memory for a commit
 abbrev pub lacking_stage : Stage → Stage
 lacking_stage (Made def indexed) = without_index def
-lacking_stage stage = unsaid (reply.Refused NoMemory)
+lacking_stage stage = stopped_stage NoMemory
 
 abbrev pub inside_with : (Stage → Stage) → ControlPoint → ControlPoint
 inside_with f (Inside stage) = Inside (f stage)
@@ -153,7 +150,7 @@ abbrev pub HasAssignedId : {H : Type 0} → (H → List ℕ → List ℕ) → Bo
     → Type 0
 HasAssignedId digest explicit (Some r) y z = (id : ℕ) × IsIdOf digest id r
     × (z ≡ moved y (Some r) (Inside (assigned_id_stage explicit id)))
-HasAssignedId digest explicit None y z = z ≡ moved y y.running (Inside (unsaid (reply.Refused NoMemory)))
+HasAssignedId digest explicit None y z = z ≡ moved y y.running (Inside (stopped_stage NoMemory))
 
 -- its transaction ended without a commit, after so many
 pub record HasEnded {H : Type 0} (digest : H → List ℕ → List ℕ) (after : ℕ) (y z : Seat H) : Type 0 where

@@ -8,10 +8,11 @@ ghost use Rattle.server_visit_ledger.specs.LedgerMoves.{HasAssignedId, VisitsOn,
 ghost use Rattle.server_session.specs.Steps.{Among};
 ghost use Rattle.server_visit_ledger.specs.declared.ledger_work.LedgerWork.TheVariants.{AssignId};
 
-use crate::ledger_work::unsaid;
 use base_merkle::Hash32;
 use base_types::{Memory, Text, TxId, is_tx_id};
-use server_session::{ControlPoint, Running, Seat, Stage, TxCtx, VisitedCellList, put_point};
+use server_session::{
+    ControlPoint, Running, Seat, Stage, TxCtx, VisitedCellList, put_point, stopped, unsaid,
+};
 use sql_types::Reply;
 use sql_value::Refusal;
 use std::alloc::Global;
@@ -49,7 +50,7 @@ fn go_on_with<H: Hash32>(seat: &mut Seat<H>, drawn: Option<Running<H>>, explicit
         }
         None => put_point(
             &mut seat.point,
-            ControlPoint::Inside(unsaid(Reply::Refused(Refusal::NoMemory))),
+            ControlPoint::Inside(stopped(Refusal::NoMemory)),
         ),
     }
 }

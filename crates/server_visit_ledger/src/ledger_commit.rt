@@ -12,11 +12,11 @@ ghost use Rattle.server_session.specs.Steps.{Among};
 ghost use Rattle.server_visit_ledger.specs.declared.ledger_work.LedgerWork.TheVariants.{Commit};
 
 use crate::ledger_end::fix_end;
-use crate::ledger_work::{unsaid, without_index};
+use crate::ledger_work::without_index;
 use base_merkle::Hash32;
 use base_types::{Items, Memory, Text};
 use format_reply::reply_text;
-use server_session::{ControlPoint, Running, Seat, Stage, put_point};
+use server_session::{ControlPoint, Running, Seat, Stage, put_point, stopped, unsaid};
 use sql_types::{EndLine, Reply, Script};
 use sql_value::Refusal;
 use std::alloc::Global;
@@ -50,7 +50,7 @@ fn try_commit<H: Hash32>(
     ensures err { OnErr result (ledger.new ≡ ledger.old) }
 {
     let Some(running) = &seat.running else {
-        return Err(Memory);
+        unreachable!()
     };
     if running.context.is_read_only() {
         return Ok(None);
@@ -224,7 +224,7 @@ fn lacking_stage(stage: Stage) -> Stage
         Stage::Made { def, indexed: _ } => without_index(def),
         stage => {
             drop(stage);
-            unsaid(Reply::Refused(Refusal::NoMemory))
+            stopped(Refusal::NoMemory)
         }
     }
 }

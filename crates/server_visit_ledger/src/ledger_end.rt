@@ -7,9 +7,9 @@ ghost use Rattle.server_visit_ledger.specs.LedgerMoves.{work_of as work_at, ende
 ghost use Rattle.server_session.specs.Steps.{Among};
 ghost use Rattle.server_visit_ledger.specs.declared.ledger_work.LedgerWork.TheVariants.{End};
 
-use crate::ledger_work::{unsaid, without_index};
+use crate::ledger_work::without_index;
 use base_merkle::Hash32;
-use server_session::{ControlPoint, Running, Seat, Stage, put_point};
+use server_session::{ControlPoint, Running, Seat, Stage, put_point, unsaid};
 use sql_types::{EndLine, Reply};
 use std::mem;
 use store_ledger::LedgerCell;

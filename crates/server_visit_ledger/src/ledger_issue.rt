@@ -3,15 +3,15 @@
 ghost use Rattle.std.specs.Prelude.{◌≡◌, ◌<◌, ◌≤◌};
 ghost use Rattle.server_session.specs.Cells.{pending_in};
 ghost use Rattle.server_visit_ledger.specs.LedgerSeen.{ledger_seen};
-ghost use Rattle.server_visit_ledger.specs.LedgerMoves.{VisitsOn, moved, digest_reply as reply_of, unsaid as unsaid_at};
+ghost use Rattle.server_visit_ledger.specs.LedgerMoves.{VisitsOn, moved, digest_reply as reply_of};
+ghost use Rattle.server_session.specs.Stages.{unsaid as unsaid_at};
 ghost use Rattle.server_visit_ledger.specs.LedgerMoves.{work_of as work_at};
 ghost use Rattle.server_session.specs.Steps.{Among};
 ghost use Rattle.server_visit_ledger.specs.declared.ledger_work.LedgerWork.TheVariants.{Issue};
 ghost use Rattle.server_session.specs.declared.stage.ControlPoint.TheVariants.{Inside};
 
-use crate::ledger_work::unsaid;
 use base_merkle::Hash32;
-use server_session::{ControlPoint, Seat, put_point};
+use server_session::{ControlPoint, Seat, put_point, unsaid};
 use sql_types::Reply;
 use sql_value::Refusal;
 use std::alloc::Global;

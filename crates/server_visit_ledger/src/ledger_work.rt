@@ -3,7 +3,7 @@
 ghost use Rattle.std.specs.Prelude.{◌≡◌};
 ghost use Rattle.server_visit_ledger.specs.LedgerMoves as spec;
 
-use server_session::{Answering, ControlPoint, Stage};
+use server_session::{Answering, ControlPoint, Shared, Stage};
 use sql_types::{Reply, TableDef};
 use sql_value::Refusal;
 
@@ -51,19 +51,8 @@ pub(crate) fn work_of(point: &ControlPoint) -> LedgerWork
     }
 }
 
-/// A reply that doesn't come to the script of a transaction any more.
-pub(crate) fn unsaid(reply: Reply) -> Stage
-    ensures { result ≡ spec.unsaid reply }
-{
-    Stage::Answering(Answering {
-        reply,
-        said: false,
-        def: None,
-    })
-}
-
 /// NoMemory for an index, which may have to be dropped.
-pub(crate) fn without_index(def: TableDef) -> Stage
+pub(crate) fn without_index(def: Shared<TableDef>) -> Stage
     ensures { result ≡ spec.without_index def }
 {
     Stage::Answering(Answering {

@@ -51,9 +51,9 @@ use Rattle.server_session.specs.KeptCell.{rows_seen}
 use Rattle.server_session.specs.Needs.{point_need}
 use Rattle.server_session.specs.ControlPoints.{IsBegunAt, KeepsStatement, IsSamePhase}
 use Rattle.server_session.specs.Sits.{Sits, IsOfRows, IsRunning, IsSome, IsUnfixed, HasScriptCapacity, HasScript, OfOpen, OfStmt, line_of}
-use Rattle.server_session.specs.Stages.{done_stage}
+use Rattle.server_session.specs.Stages.{done_stage, stopped_behind_lock}
 use Rattle.server_session.specs.Steps.{Among, IsVisit}
-use Rattle.server_visit_table.specs.TableStages.{RunsInTableTo, left_by, stage_by, stopped_stage}
+use Rattle.server_visit_table.specs.TableStages.{RunsInTableTo, left_by, stage_by}
 use Rattle.server_session.specs.SessionOutput.{Adds, IsPlainAnonymousAct, plainly}
 use Rattle.server_session.specs.VisitedCells.{IsTableCell, table_cell}
 use Rattle.sql_types.specs.declared.end_line.EndLine.{EndLine}
@@ -239,10 +239,10 @@ module _ {H : Type 0} (digest : H → List ℕ → List ℕ) (y : Seat H) (r : R
           unreleased = k.runs.unreleased;
         }
 
-        stopped_by : (b : Bool) → Sits digest a.h (z (stopped_stage b err)) (then_at a.s open_at.stands (Some o) (stage_refused b (reply.Refused err)))
-        stopped_by true = sits_then digest a.h y a.s a.sits (then_at a.s open_at.stands (Some o) (stage_refused true (reply.Refused err))) (at_place (Some o) (inside y.text (stage_refused true (reply.Refused err))) x) y.started y.text y.stmt (Some q) (Inside (stopped_stage true err)) refl refl refl a.sits.moment
+        stopped_by : (b : Bool) → Sits digest a.h (z (stopped_behind_lock b err)) (then_at a.s open_at.stands (Some o) (stage_refused b (reply.Refused err)))
+        stopped_by true = sits_then digest a.h y a.s a.sits (then_at a.s open_at.stands (Some o) (stage_refused true (reply.Refused err))) (at_place (Some o) (inside y.text (stage_refused true (reply.Refused err))) x) y.started y.text y.stmt (Some q) (Inside (stopped_behind_lock true err)) refl refl refl a.sits.moment
             refl a.sits.reads runs0 (λ g. script) (λ said. room (sym kept.explicit ∙ said)) (free, subst (OfStmt IsSome) (sym st) tt)
-        stopped_by false = sits_then digest a.h y a.s a.sits (then_at a.s open_at.stands (Some o) (stage_refused false (reply.Refused err))) (at_place (Some o) (inside y.text (stage_refused false (reply.Refused err))) x) y.started y.text y.stmt (Some q) (Inside (stopped_stage false err)) refl refl refl a.sits.moment
+        stopped_by false = sits_then digest a.h y a.s a.sits (then_at a.s open_at.stands (Some o) (stage_refused false (reply.Refused err))) (at_place (Some o) (inside y.text (stage_refused false (reply.Refused err))) x) y.started y.text y.stmt (Some q) (Inside (stopped_behind_lock false err)) refl refl refl a.sits.moment
             refl a.sits.reads runs0 (λ g. script) (λ said. absurd (let h : false ≡ true = said in cc)) ((λ g. refl), (λ g. refl))
 
     abbrev found_at : table.Found a.v c a.s o (def, part) fresh

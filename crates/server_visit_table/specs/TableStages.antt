@@ -14,17 +14,17 @@ use Rattle.server_session.specs.TableVisits.{with_indexes}
 use Rattle.store_table.specs.declared.stop.TableErr.{TableErr}
 use Rattle.store_table.specs.declared.stop.TableErr.TheVariants.{Refused, Locked, Memory}
 use Rattle.server_visit_table.specs.InTable.{HasRun, KeepsRest}
-use Rattle.server_session.specs.Stages.{done_stage}
+use Rattle.server_session.specs.Stages.{done_stage, said, stopped_behind_lock}
 use Rattle.server_session.specs.VisitedCells.{next_back, table_cell}
 use Rattle.server_session.specs.declared.running.Running.{Running}
 use Rattle.server_session.specs.declared.stage.Stage.{Stage}
-use Rattle.server_session.specs.declared.stage.Stage.TheVariants.{Made, LacksIndex, GoingBack, GivingBack, Answering as Answered}
+use Rattle.server_session.specs.declared.stage.Stage.TheVariants.{Made, LacksIndex, GoingBack}
 
 -- ---- on the way back to a savepoint
 
 abbrev pub back_by : ℕ → ℕ → Option ℕ → Stage
 back_by seq passed (Some i) = GoingBack seq passed
-back_by seq passed None = Answered (record { reply = reply.Back; said = true; def = None })
+back_by seq passed None = said reply.Back
 
 -- so many of these cells were visited
 abbrev pub back_stage : ℕ → ℕ → List ℕ → Stage
@@ -32,14 +32,9 @@ back_stage seq passed left = back_by seq passed (next_back left passed)
 
 -- ---- a statement of rows
 
--- it is stopped; with true, it is to give back the catalog's lock
-abbrev pub stopped_stage : Bool → Refusal → Stage
-stopped_stage true e = GivingBack e
-stopped_stage false e = Answered (record { reply = reply.Refused e; said = false; def = None })
-
 abbrev pub stage_by : Bool → Bool → Result Reply Refusal → Stage
 stage_by explicit fresh (Ok r) = done_stage explicit r
-stage_by explicit fresh (Err e) = stopped_stage fresh e
+stage_by explicit fresh (Err e) = stopped_behind_lock fresh e
 
 -- where it is stopped it takes no lock in the cell
 abbrev pub left_by : ℕ → Result Reply Refusal → List ℕ → List ℕ

@@ -8,9 +8,7 @@ ghost use Rattle.server_session.specs.Steps.{Among, ComesOn, Visits};
 ghost use Rattle.server_visit_table.specs.TableStages.{back_stage};
 
 use base_merkle::Hash32;
-use server_session::{
-    Answering, ControlPoint, Seat, Stage, VisitedCellList, not_catalog, put_point,
-};
+use server_session::{ControlPoint, Seat, Stage, VisitedCellList, not_catalog, put_point, said};
 use sql_types::Reply;
 use store_table::TableCell;
 
@@ -23,10 +21,10 @@ pub(crate) fn go_back<H: Hash32>(seat: &mut Seat<H>, rows: &mut TableCell)
     ensures stays { KeepsStatement seat.old seat.new }
 {
     let ControlPoint::Inside(Stage::GoingBack { seq, passed }) = &seat.point else {
-        return;
+        unreachable!()
     };
     let Some(running) = &seat.running else {
-        return;
+        unreachable!()
     };
     rows.undo_to(running.context.id(), *seq);
     let stage = stage_behind(&running.visited, *seq, *passed);
@@ -41,10 +39,6 @@ fn stage_behind(visited: &VisitedCellList, seq: u64, passed: usize) -> Stage
     let passed = visited.one_more(passed);
     match not_catalog(visited.at(passed)) {
         Some(_) => Stage::GoingBack { seq, passed },
-        None => Stage::Answering(Answering {
-            reply: Reply::Back,
-            said: true,
-            def: None,
-        }),
+        None => said(Reply::Back),
     }
 }

@@ -5,15 +5,16 @@ ghost use Rattle.sql_types.specs.declared.statement.Stmt.TheVariants as stmt;
 ghost use Rattle.server_visit_table.specs.InTable.{HasRun, IsFound, KeepsRest, MayChangeRows, MayRun};
 ghost use Rattle.server_session.specs.KeptCell.{rows_seen};
 ghost use Rattle.server_session.specs.ControlPoints.{KeepsStatement};
-ghost use Rattle.server_session.specs.Stages.{done_stage};
 ghost use Rattle.server_session.specs.Steps.{Among, ComesOn, Visits};
-ghost use Rattle.server_visit_table.specs.TableStages.{RunsInTableTo, changed_reply, read_reply, stopped_reply, stopped_stage};
+ghost use Rattle.server_visit_table.specs.TableStages.{RunsInTableTo, changed_reply, read_reply, stopped_reply};
 ghost use Rattle.store_table.specs.Calls.{IsTable};
 ghost use Rattle.sql_types.specs.declared.table.Part.{Part};
 
 use base_merkle::Hash32;
 use base_types::Items;
-use server_session::{Answering, ControlPoint, Running, Seat, Stage, TxCtx, cell_of, put_point};
+use server_session::{
+    ControlPoint, Running, Seat, Stage, TxCtx, cell_of, done, put_point, stopped_behind_lock,
+};
 use sql_locks::{query_requests, row_requests};
 use sql_parts::{KeyedTable, key_places};
 use sql_types::{Part, Reply, Row, RowStmt, Select, Stmt, TableDef};
@@ -30,15 +31,15 @@ pub(crate) fn run_in_table<H: Hash32>(seat: &mut Seat<H>, alloc: Global, rows: &
     ensures stays { KeepsStatement seat.old seat.new }
 {
     let ControlPoint::Inside(Stage::Found { def, part, fresh }) = &seat.point else {
-        return;
+        unreachable!()
     };
     let Some(stmt) = &seat.stmt else {
-        return;
+        unreachable!()
     };
     let Some(running) = &mut seat.running else {
-        return;
+        unreachable!()
     };
-    let stage = run_found(running, alloc, rows, def, *part, *fresh, stmt);
+    let stage = run_found(running, alloc, rows, def.get(), *part, *fresh, stmt);
     put_point(&mut seat.point, ControlPoint::Inside(stage));
 }
 
@@ -58,9 +59,9 @@ fn run_found<H: Hash32>(
     match run(running, alloc, rows, def, part, stmt) {
         Ok(reply) => {
             running.visited.add(cell_of(def.id));
-            stage_done(running.explicit, reply)
+            done(running.explicit, reply)
         }
-        Err(refusal) => stage_stopped(fresh, refusal),
+        Err(refusal) => stopped_behind_lock(fresh, refusal),
     }
 }
 
@@ -100,8 +101,9 @@ fn change<H: Hash32>(
         result rows.new context.new }
 {
     let places = key_places(alloc, def.columns.as_slice())?;
-    let requests = row_requests(alloc, &KeyedTable::new(def, &places), row)?;
-    reply_changed(rows.change(alloc, context, def, row, &requests))
+    let table = KeyedTable::new(def, &places);
+    let requests = row_requests(alloc, &table, row)?;
+    reply_changed(rows.change(alloc, context, &table, row, &requests))
 }
 
 fn read<H: Hash32>(
@@ -117,8 +119,9 @@ fn read<H: Hash32>(
         context.now }
 {
     let places = key_places(alloc, def.columns.as_slice())?;
-    let requests = query_requests(alloc, &KeyedTable::new(def, &places), part, q)?;
-    reply_read(rows.read(alloc, context.id(), def, part, q, &requests))
+    let table = KeyedTable::new(def, &places);
+    let requests = query_requests(alloc, &table, part, q)?;
+    reply_read(rows.read(alloc, context.id(), &table, part, q, &requests))
 }
 
 fn reply_changed(changed: Result<u64, TableErr>) -> Result<Reply, Refusal>
@@ -147,35 +150,5 @@ fn reply_stopped(stop: TableErr) -> Result<Reply, Refusal>
         TableErr::Refused(refusal) => Ok(Reply::Refused(refusal)),
         TableErr::Locked { holder } => Err(Refusal::Locked { holder }),
         TableErr::Memory => Err(Refusal::NoMemory),
-    }
-}
-
-// Where the seat stands once its statement is done: a transaction of its own is to be ended then.
-fn stage_done(explicit: bool, reply: Reply) -> Stage
-    ensures { result ≡ done_stage explicit reply }
-{
-    if explicit {
-        Stage::Answering(Answering {
-            reply,
-            said: true,
-            def: None,
-        })
-    } else {
-        Stage::Replied(reply)
-    }
-}
-
-// Where it stands once its statement is stopped: one that took the catalog's lock is to give it back.
-fn stage_stopped(fresh: bool, refusal: Refusal) -> Stage
-    ensures { result ≡ stopped_stage fresh refusal }
-{
-    if fresh {
-        Stage::GivingBack(refusal)
-    } else {
-        Stage::Answering(Answering {
-            reply: Reply::Refused(refusal),
-            said: false,
-            def: None,
-        })
     }
 }

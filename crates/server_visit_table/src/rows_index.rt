@@ -10,7 +10,7 @@ ghost use Rattle.store_table.specs.Calls.{IsTable, LacksLast};
 
 use base_merkle::Hash32;
 use base_types::Memory;
-use server_session::{ControlPoint, Running, Seat, Stage, cell_of, put_point};
+use server_session::{ControlPoint, Running, Seat, Shared, Stage, cell_of, put_point};
 use sql_types::TableDef;
 use std::alloc::Global;
 use store_table::TableCell;
@@ -27,12 +27,12 @@ pub(crate) fn add_index<H: Hash32>(seat: &mut Seat<H>, alloc: Global, rows: &mut
         &mut seat.point,
         ControlPoint::Between,
     ) else {
-        return;
+        unreachable!()
     };
     let Some(running) = &mut seat.running else {
-        return;
+        unreachable!()
     };
-    let added = add_last_index(running, alloc, rows, &def).is_ok();
+    let added = add_last_index(running, alloc, rows, def.get()).is_ok();
     put_point(
         &mut seat.point,
         ControlPoint::Inside(stage_made(def, added)),
@@ -58,7 +58,7 @@ fn add_last_index<H: Hash32>(
     Ok(())
 }
 
-fn stage_made(def: TableDef, added: bool) -> Stage
+fn stage_made(def: Shared<TableDef>, added: bool) -> Stage
     ensures { result ≡ made_stage def added }
 {
     if added {

@@ -58,6 +58,6 @@ fn drop_refused(point: &ControlPoint, rows: &mut TableCell)
     ensures { rows.new ≡ index_dropped (def_to_drop point.now) rows.old }
 {
     if let ControlPoint::Inside(Stage::Answering(Answering { def: Some(def), .. })) = point {
-        rows.drop_index(def);
+        rows.drop_index(def.get());
     }
 }

@@ -1,5 +1,5 @@
 -- The last change of the definitions, taken back or left.
-use Rattle.std.proofs.Common.{◌≡◌, ℕ, refl, true, false, Option, Some, None}
+use Rattle.std.proofs.Common.{◌≡◌, ℕ, refl, true, Option, Some, None}
 use Rattle.spec_model.specs.Catalog.{Defs}
 use Rattle.spec_protocol.specs.UndoVisits.{defs_before, creator_left}
 use Rattle.store_catalog.specs.declared.definitions.Creator.{Creator}

@@ -10,6 +10,7 @@ ghost use Rattle.store_catalog.specs.WorkedOut.{IsAlteredTable, IsDroppedTable};
 use crate::creating::{COLUMNS, TABLES};
 use crate::named_defs::{NamedDefs, PlacedDef};
 use crate::rows::{NewRows, new_rows};
+use base_shared::Shared;
 use base_types::{Name, TxId};
 use sql_check::{WithColumn, altered_name, altered_table, dropped_table};
 use sql_system::{changed_column_start, changed_table_start, next_change};
@@ -31,7 +32,7 @@ fn check_alter(alloc: Global, defs: &NamedDefs, alter: &Alter) -> Result<WithCol
     requires { AreFormed defs.now }
     ensures { MatchesUnlessOom (alter_check defs.now alter.now) result }
 {
-    let Some((def, part)) = defs.find(altered_name(alter)) else {
+    let Some((def, part)) = defs.find_def(altered_name(alter)) else {
         return Err(Refusal::NoSuchTable);
     };
     altered_table(alloc, def, part, alter)
@@ -42,7 +43,7 @@ fn check_alter(alloc: Global, defs: &NamedDefs, alter: &Alter) -> Result<WithCol
 fn check_drop(alloc: Global, defs: &NamedDefs, name: &Name) -> Result<TableDef, Refusal>
     ensures { MatchesUnlessOom (drop_check defs.now name.now) result }
 {
-    let Some((def, part)) = defs.find(name) else {
+    let Some((def, part)) = defs.find_def(name) else {
         return Err(Refusal::NoSuchTable);
     };
     dropped_table(alloc, defs, def, part)
@@ -64,12 +65,14 @@ pub(crate) fn work_out_alter(
         (IsAlteredTable defs.now (alteration defs.now tables.now columns.now alter.now) tx seq)
         (λ e. e ≢ NoMemory → alteration defs.now tables.now columns.now alter.now ≡ Err e) }
 {
-    let (def, (ordinal, column)) = check_alter(alloc, defs, alter)?;
-    let change = next_change(def.id, tables, columns)?;
-    let starts = changed_column_start(alloc, change, &def, ordinal.into(), &column)?;
+    let (altered, (ordinal, column)) = check_alter(alloc, defs, alter)?;
+    let id = altered.id;
+    let def = Shared::new(alloc, altered)?;
+    let change = next_change(id, tables, columns)?;
+    let starts = changed_column_start(alloc, change, def.get(), ordinal.into(), &column)?;
     let rows = new_rows(alloc, COLUMNS, tx, seq, starts)?;
     let placed = PlacedDef {
-        place: def.id as usize - 1,
+        place: id as usize - 1,
         def,
         names: None,
     };
@@ -92,12 +95,14 @@ pub(crate) fn work_out_drop(
         (IsDroppedTable defs.now (table_drop defs.now tables.now columns.now name.now) tx seq)
         (λ e. e ≢ NoMemory → table_drop defs.now tables.now columns.now name.now ≡ Err e) }
 {
-    let def = check_drop(alloc, defs, name)?;
-    let change = next_change(def.id, tables, columns)?;
-    let starts = changed_table_start(alloc, change, &def)?;
+    let dropped = check_drop(alloc, defs, name)?;
+    let id = dropped.id;
+    let def = Shared::new(alloc, dropped)?;
+    let change = next_change(id, tables, columns)?;
+    let starts = changed_table_start(alloc, change, def.get())?;
     let rows = new_rows(alloc, TABLES, tx, seq, starts)?;
-    let place = def.id as usize - 1;
-    let names = defs.names_with(alloc, place, &def)?;
+    let place = id as usize - 1;
+    let names = defs.names_with(alloc, place, def.get())?;
     let placed = PlacedDef {
         place,
         def,

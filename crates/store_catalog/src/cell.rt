@@ -24,7 +24,7 @@ ghost use Rattle.store_catalog.specs.WorkedOut.{IsPlaced};
 
 use crate::altering::{AlteredTable, work_out_alter, work_out_drop};
 use crate::creating::{COLUMNS, NewIndex, NewTable, TABLES, work_out_index, work_out_table};
-use crate::definitions::{Creator, copy_before, copy_defs, keep_change, undo_change};
+use crate::definitions::{Creator, copy_before, copy_defs, keep_change, put_creator, undo_change};
 use crate::locks::or_refusal;
 use crate::named_defs::{NamedDefs, PlacedDef};
 use crate::noting::{note_both, open_both};
@@ -32,9 +32,10 @@ use crate::reading::show;
 use crate::rows::carry_out;
 use crate::starting::start_rows;
 use base_merkle::Hash32;
+use base_shared::Shared;
 use base_types::{Items, Memory, Name, TableId, TxId};
 use sql_system::first_tables;
-use sql_types::{Alter, CreateIndex, CreateTable, Part, Row, Select, TableDef, Version};
+use sql_types::{Alter, CreateIndex, CreateTable, Part, Row, Select, Table, TableDef, Version};
 use sql_value::Refusal;
 use std::alloc::Global;
 use std::marker::Model;
@@ -70,6 +71,15 @@ impl Model for CatalogCell {
     ghost invariant = { λ c. AreFormed c.defs × MayTakeBack c.defs c.creator };
 }
 
+// The definition of a table, whose versions go. `drop` lets a type go by a function of its own, which is proved once.
+fn def_of(alloc: Global, table: Table) -> Result<Shared<TableDef>, Memory>
+    ensures { IfOk result (λ def. def ≡ table.def) }
+{
+    let Table { def, versions } = table;
+    drop(versions);
+    Shared::new(alloc, def)
+}
+
 // Makes room for a row in the table of tables, and for so many in that of columns.
 fn reserve(
     tables: &mut VersionStore,
@@ -93,11 +103,12 @@ impl CatalogCell {
         ensures { IfOk result (λ c. c ≡ first_catalog) }
     {
         let mut system = first_tables(alloc)?;
-        let columns = system.pop().unwrap();
-        let tables = system.pop().unwrap();
+        let columns = def_of(alloc, system.pop().unwrap());
+        let tables = def_of(alloc, system.pop().unwrap());
+        drop(system);
         let mut defs = NamedDefs::new(alloc);
-        defs.push(alloc, tables.def)?;
-        defs.push(alloc, columns.def)?;
+        defs.push(alloc, tables?)?;
+        defs.push(alloc, columns?)?;
         Ok(CatalogCell {
             defs,
             creator: None,
@@ -119,7 +130,7 @@ impl CatalogCell {
     }
 
     /// The table, and the part of it, that a name stands for. Nothing is copied.
-    pub fn look(&self, name: &Name) -> Option<(&TableDef, Part)>
+    pub fn look(&self, name: &Name) -> Option<(&Shared<TableDef>, Part)>
         ensures { option_map (λ p. (p.0.now, p.1)) result ≡ find_part self.now.defs name.now }
     {
         self.defs.find(name)
@@ -136,6 +147,7 @@ impl CatalogCell {
         let Some((def, part)) = self.look(&q.table) else {
             return Err(Refusal::NoSuchTable);
         };
+        let def = def.get();
         show(alloc, def, part, self.versions_of(def.id), q)
     }
 
@@ -202,7 +214,8 @@ impl CatalogCell {
         note_both(ctx, first.leaves.as_slice(), second.leaves.as_slice());
         carry_out(&mut self.tables, tx, seq, first.starts);
         carry_out(&mut self.columns, tx, seq + 1, second.starts);
-        self.creator = Some(Creator { tx, replaced: None });
+        let creator = Creator { tx, replaced: None };
+        put_creator(&mut self.creator, Some(creator));
         Ok(())
     }
 
@@ -215,7 +228,7 @@ impl CatalogCell {
         alloc: Global,
         ctx: &mut TxCtx<H>,
         create: &CreateIndex,
-    ) -> Result<TableDef, Refusal>
+    ) -> Result<Shared<TableDef>, Refusal>
         requires { MayCreate H.digest ctx.old self.old }
         ensures ok { IfOk result (λ now.
             IndexMade H.digest self.old ctx.old create.now now self.new ctx.new) }
@@ -299,7 +312,7 @@ impl CatalogCell {
         ensures { self.new ≡ redefined tx placed.def self.old }
     {
         let replaced = Some(self.defs.replace(placed));
-        self.creator = Some(Creator { tx, replaced });
+        put_creator(&mut self.creator, Some(Creator { tx, replaced }));
     }
 
     /// Takes back what the transaction made: the definitions are what they were before, and its rows are

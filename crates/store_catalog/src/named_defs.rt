@@ -7,6 +7,7 @@ ghost use Rattle.sql_types.specs.declared.table.Part.{Part as SpecPart};
 ghost use Rattle.spec_model.specs.Catalog.{find_part};
 ghost use Rattle.store_catalog.specs.Names.{leading, names_at, names_from, HasNewNames, MayReplace};
 
+use base_shared::Shared;
 use base_types::{Memory, Name};
 use indexmap::IndexMap;
 use sql_check::{Definitions, own_part};
@@ -30,7 +31,7 @@ pub(crate) type Names = IndexMap<Name, NamedPlace>;
 #[derive(Drop)]
 pub(crate) struct PlacedDef {
     pub place: usize,
-    pub def: TableDef,
+    pub def: Shared<TableDef>,
     pub names: Option<Names>,
 }
 
@@ -38,7 +39,7 @@ pub(crate) struct PlacedDef {
 /// Contracts see the list of the definitions.
 #[derive(Drop)]
 pub(crate) struct NamedDefs {
-    defs: Vec<TableDef>,
+    defs: Vec<Shared<TableDef>>,
     names: Names,
 }
 
@@ -86,7 +87,7 @@ fn names_of(alloc: Global, place: usize, def: &TableDef) -> Result<Names, Memory
 
 // The definition there, once this one stands at its place.
 fn def_there<'a>(
-    defs: &'a [TableDef],
+    defs: &'a [Shared<TableDef>],
     there: usize,
     place: usize,
     def: &'a TableDef,
@@ -94,13 +95,17 @@ fn def_there<'a>(
     requires { there < length defs.now }
     ensures { result.now ≡ get_or (slice_set defs.now place def.now) there result.now }
 {
-    if there == place { def } else { &defs[there] }
+    if there == place {
+        def
+    } else {
+        defs[there].get()
+    }
 }
 
 // Adds the names of all tables, once this definition stands at its place.
 fn add_all_names(
     names: &mut Names,
-    defs: &[TableDef],
+    defs: &[Shared<TableDef>],
     place: usize,
     def: &TableDef,
 ) -> Result<(), Memory>
@@ -151,29 +156,41 @@ impl NamedDefs {
     }
 
     /// The definitions, in the order in which their tables were made.
-    pub(crate) fn as_slice(&self) -> &[TableDef]
+    pub(crate) fn as_slice(&self) -> &[Shared<TableDef>]
         ensures { result.now ≡ self.now }
     {
         &self.defs
     }
 
     /// The table, and the part of it, that a name stands for. The map leads there, and nothing is copied.
-    pub(crate) fn find(&self, name: &Name) -> Option<(&TableDef, Part)>
+    pub(crate) fn find(&self, name: &Name) -> Option<(&Shared<TableDef>, Part)>
         ensures { option_map (λ p. (p.0.now, p.1)) result ≡ find_part self.now name.now }
     {
         let named = self.names.get(name)?;
         Some((&self.defs[named.place], named.part))
     }
 
+    /// The same, without a share in the definition.
+    pub(crate) fn find_def(&self, name: &Name) -> Option<(&TableDef, Part)>
+        ensures { option_map (λ p. (p.0.now, p.1)) result ≡ find_part self.now name.now }
+    {
+        match self.find(name) {
+            Some((def, part)) => Some((def.get(), part)),
+            None => None,
+        }
+    }
+
     /// Adds the definition of a new table behind the others. For want of memory nothing changes.
-    pub(crate) fn push(&mut self, alloc: Global, def: TableDef) -> Result<(), Memory>
+    pub(crate) fn push(&mut self, alloc: Global, def: Shared<TableDef>) -> Result<(), Memory>
         requires { HasNewNames self.old def }
         ensures ok { OnOk result (self.new ≡ self.old ++ def ∷ []) }
         ensures err { OnErr result (self.new ≡ self.old) }
     {
-        let mut names = names_of(alloc, self.defs.len(), &def)?;
         self.defs.reserve(1)?;
-        self.names.append(&mut names)?;
+        let mut names = names_of(alloc, self.defs.len(), def.get())?;
+        let added = self.names.append(&mut names);
+        drop(names);
+        added?;
         self.defs.push_reserved(def);
         Ok(())
     }
@@ -183,7 +200,8 @@ impl NamedDefs {
         ensures { self.new ≡ take (length self.old - 1) self.old }
     {
         if let Some(def) = self.defs.pop() {
-            self.names.truncate(self.names.len() - count_names(&def));
+            self.names
+                .truncate(self.names.len() - count_names(def.get()));
         }
     }
 

@@ -16,6 +16,7 @@ use crate::version_store::VersionStore;
 use crate::writing::change_rows;
 use base_merkle::Hash32;
 use base_types::{Items, Memory, TableId, TxId};
+use sql_parts::KeyedTable;
 use sql_types::{EventId, Part, Row, RowStmt, Select, TableDef, Version};
 use sql_value::Refusal;
 use std::alloc::Global;
@@ -94,24 +95,24 @@ impl TableCell {
         &mut self,
         alloc: Global,
         ctx: &mut TxCtx<H>,
-        def: &TableDef,
+        table: &KeyedTable,
         stmt: &RowStmt,
         requests: &[LockRequest],
     ) -> Result<u64, TableErr>
-        requires table { IsTable self.old def.now }
-        requires fit { HasFit self.old def.now }
-        requires passes { row_statement_check (def.now ∷ []) stmt.now ≡ Ok def.now }
+        requires table { IsTable self.old table.now }
+        requires fit { HasFit self.old table.now }
+        requires passes { row_statement_check (table.now ∷ []) stmt.now ≡ Ok table.now }
         requires before { MayChange H.digest ctx.old self.old.versions }
         ensures ok { IfOk result (λ count.
-            RowsChanged H.digest self.old ctx.old def.now stmt.now requests.now count self.new ctx.new) }
+            RowsChanged H.digest self.old ctx.old table.now stmt.now requests.now count self.new ctx.new) }
         ensures stopped { IfErr result (λ stop.
-            NoneChanged H.digest self.old ctx.old def.now stmt.now requests.now stop self.new) }
+            NoneChanged H.digest self.old ctx.old table.now stmt.now requests.now stop self.new) }
         ensures context { OnErr result ((h : H) (o : OpenTransaction) → Represents H.digest h ctx.old o
             → Represents H.digest h ctx.new o) }
     {
         let held = self.held();
         self.lock(ctx.id(), requests)?;
-        match change_rows(alloc, &mut self.store, ctx, def, stmt) {
+        match change_rows(alloc, &mut self.store, ctx, table, stmt) {
             Ok(count) => Ok(count),
             Err(refusal) => Err(self.stop(held, refusal)),
         }
@@ -156,19 +157,19 @@ impl TableCell {
         &mut self,
         alloc: Global,
         tx: TxId,
-        def: &TableDef,
+        table: &KeyedTable,
         part: Part,
         q: &Select,
         requests: &[LockRequest],
     ) -> Result<Items<Row>, TableErr>
-        requires { IsTable self.old def.now }
-        ensures ok { IfOk result (λ rows. RowsRead self.old tx requests.now (def.now, part) q.now rows self.new) }
+        requires { IsTable self.old table.now }
+        ensures ok { IfOk result (λ rows. RowsRead self.old tx requests.now (table.now, part) q.now rows self.new) }
         ensures stopped { IfErr result (λ stop.
-            NoneRead self.old tx requests.now (def.now, part) q.now stop self.new) }
+            NoneRead self.old tx requests.now (table.now, part) q.now stop self.new) }
     {
         let held = self.held();
         self.lock(tx, requests)?;
-        match read_rows(alloc, &self.store, def, part, q) {
+        match read_rows(alloc, &self.store, table, part, q) {
             Ok(rows) => Ok(rows),
             Err(refusal) => Err(self.stop(held, refusal)),
         }

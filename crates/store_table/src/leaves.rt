@@ -17,6 +17,9 @@ use law_events::are_utf8_texts;
 use sql_types::{Change, EventId, Version};
 use std::alloc::Global;
 
+// So many bytes a leaf of few values takes; longer ones grow.
+const LEAF_ROOM: usize = 128;
+
 /// The leaf of an event of a row that fits its table.
 pub fn leaf_of(alloc: Global, event: &EventRef) -> Result<Blob, Memory>
     requires { (columns : List ColumnDef) × (length columns ≤ max_columns) × Fits columns event.now.values.now }
@@ -31,7 +34,7 @@ fn leaf_of_version(alloc: Global, event: &EventRef) -> Result<Blob, Memory>
     ensures { IfOk result (λ leaf. leaf ≡ event_bytes (views.event_of event.now)) }
 {
     are_utf8_texts(event.values);
-    let mut leaf = Vec::new(alloc);
+    let mut leaf = Vec::with_capacity(alloc, LEAF_ROOM)?;
     write_leaf(event, &mut leaf)?;
     Ok(Blob::from_vec(leaf))
 }

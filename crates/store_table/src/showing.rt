@@ -7,37 +7,14 @@ ghost use Rattle.spec_model.specs.Refusals.{MatchesUnlessOom};
 
 use crate::version_store::VersionStore;
 use base_types::Items;
-use sql_parts::{KeyedTable, key_places};
+use sql_parts::KeyedTable;
 use sql_select::query_rows;
-use sql_types::{Part, Row, Select, TableDef};
+use sql_types::{Part, Row, Select};
 use sql_value::Refusal;
 use std::alloc::Global;
 
 /// The rows that a SELECT shows, or why it is refused.
 pub fn read_rows(
-    alloc: Global,
-    store: &VersionStore,
-    def: &TableDef,
-    part: Part,
-    q: &Select,
-) -> Result<Items<Row>, Refusal>
-    requires { (store.now.stored.versions ≡ []) ⊎ (store.now.stored.key ≡ keys.key_places def.now.columns) }
-    ensures { MatchesUnlessOom (spec.query_rows q.now (def.now, part) store.now.stored.versions) result }
-{
-    if store.versions().is_empty() {
-        let places = key_places(alloc, def.columns.as_slice())?;
-        return read_keyed(alloc, store, &KeyedTable::new(def, &places), part, q);
-    }
-    read_keyed(
-        alloc,
-        store,
-        &KeyedTable::new(def, store.key_places()),
-        part,
-        q,
-    )
-}
-
-fn read_keyed(
     alloc: Global,
     store: &VersionStore,
     table: &KeyedTable,

@@ -93,13 +93,6 @@ impl VersionStore {
         }
     }
 
-    /// The places of the key's columns among the columns, where there are versions.
-    pub fn key_places(&self) -> &[usize]
-        ensures { result.now ≡ self.now.stored.key }
-    {
-        &self.key
-    }
-
     /// The versions, by rising start.
     pub fn versions(&self) -> &[Version]
         ensures { result.now ≡ self.now.stored.versions }

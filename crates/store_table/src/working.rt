@@ -14,8 +14,8 @@ use crate::leaves::leaves_of;
 use crate::version_store::VersionStore;
 use base_types::{Blob, Items, TxId};
 use sql_change::row_changes_of;
-use sql_parts::{KeyedTable, key_places};
-use sql_types::{Change, RowStmt, TableDef};
+use sql_parts::KeyedTable;
+use sql_types::{Change, RowStmt};
 use sql_value::Refusal;
 use std::alloc::Global;
 
@@ -32,33 +32,8 @@ pub struct StatementChanges {
 
 /// What the statement is to do, as the events of the transaction that have the numbers from `seq` on; or why
 /// it is refused. NoMemory for want of memory, or where the numbers have no room.
-pub fn work_out(
-    alloc: Global,
-    store: &VersionStore,
-    tx: TxId,
-    seq: u64,
-    def: &TableDef,
-    stmt: &RowStmt,
-) -> Result<StatementChanges, Refusal>
-    requires key { (store.now.stored.versions ≡ []) ⊎ (store.now.stored.key ≡ keys.key_places def.now.columns) }
-    requires few { length def.now.columns ≤ max_columns }
-    requires fit { Each (λ v. FitsSoFar def.now.columns v.values) store.now.stored.versions }
-    requires passes { row_statement_check (def.now ∷ []) stmt.now ≡ Ok def.now }
-    ensures ok { IfOk result (λ worked. IsWorkedOut def.now store.now.stored.versions stmt.now tx seq
-        worked.changes worked.count worked.leaves.items) }
-    ensures err { IfErr result (λ e. e ≢ NoMemory
-        → spec.row_changes def.now store.now.stored.versions stmt.now ≡ Err e) }
-{
-    if store.versions().is_empty() {
-        let places = key_places(alloc, def.columns.as_slice())?;
-        return work_out_keyed(alloc, store, tx, seq, &KeyedTable::new(def, &places), stmt);
-    }
-    let table = KeyedTable::new(def, store.key_places());
-    work_out_keyed(alloc, store, tx, seq, &table, stmt)
-}
-
 #[tactic(auto, using(crate::proofs::Written::worked_out, crate::proofs::Written::all_made))]
-fn work_out_keyed(
+pub fn work_out(
     alloc: Global,
     store: &VersionStore,
     tx: TxId,

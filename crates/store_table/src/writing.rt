@@ -18,7 +18,8 @@ use crate::version_store::VersionStore;
 use crate::working::work_out;
 use base_merkle::Hash32;
 use base_types::Memory;
-use sql_types::{RowStmt, TableDef};
+use sql_parts::KeyedTable;
+use sql_types::RowStmt;
 use sql_value::Refusal;
 use std::alloc::Global;
 use store_tx::TxCtx;
@@ -30,18 +31,18 @@ pub fn change_rows<H: Hash32>(
     alloc: Global,
     store: &mut VersionStore,
     ctx: &mut TxCtx<H>,
-    def: &TableDef,
+    table: &KeyedTable,
     stmt: &RowStmt,
 ) -> Result<u64, Refusal>
-    requires key { (store.old.stored.versions ≡ []) ⊎ (store.old.stored.key ≡ key_places def.now.columns) }
-    requires few { length def.now.columns ≤ max_columns }
-    requires fit { Each (λ v. FitsSoFar def.now.columns v.values) store.old.stored.versions }
-    requires passes { row_statement_check (def.now ∷ []) stmt.now ≡ Ok def.now }
+    requires key { (store.old.stored.versions ≡ []) ⊎ (store.old.stored.key ≡ key_places table.now.columns) }
+    requires few { length table.now.columns ≤ max_columns }
+    requires fit { Each (λ v. FitsSoFar table.now.columns v.values) store.old.stored.versions }
+    requires passes { row_statement_check (table.now ∷ []) stmt.now ≡ Ok table.now }
     requires before { MayChange H.digest ctx.old store.old.stored.versions }
     ensures ok { IfOk result (λ count.
-        RowsWritten H.digest store.old.stored ctx.old def.now stmt.now count store.new.stored ctx.new) }
+        RowsWritten H.digest store.old.stored ctx.old table.now stmt.now count store.new.stored ctx.new) }
     ensures refused { IfErr result (λ e. e ≢ NoMemory
-        → row_changes def.now store.old.stored.versions stmt.now ≡ Err e) }
+        → row_changes table.now store.old.stored.versions stmt.now ≡ Err e) }
     ensures err { OnErr result (store.new.stored ≡ store.old.stored) }
     ensures context { OnErr result ((h : H) (o : OpenTransaction) → Represents H.digest h ctx.old o
         → Represents H.digest h ctx.new o) }
@@ -49,10 +50,10 @@ pub fn change_rows<H: Hash32>(
     store.versions_rise();
     let tx = ctx.id();
     let seq = ctx.seq();
-    let worked = work_out(alloc, store, tx, seq, def, stmt)?;
-    make_room(alloc, store, ctx, def, worked.changes.len())?;
+    let worked = work_out(alloc, store, tx, seq, table, stmt)?;
+    make_room(alloc, store, ctx, table, worked.changes.len())?;
     store.carry_out(tx, seq, worked.changes);
-    note_all(ctx, def.id, &worked.leaves);
+    note_all(ctx, table.def().id, &worked.leaves);
     Ok(worked.count)
 }
 
@@ -62,19 +63,19 @@ fn make_room<H: Hash32>(
     alloc: Global,
     store: &mut VersionStore,
     ctx: &mut TxCtx<H>,
-    def: &TableDef,
+    table: &KeyedTable,
     count: usize,
 ) -> Result<(), Memory>
-    requires { (store.old.stored.versions ≡ []) ⊎ (store.old.stored.key ≡ key_places def.now.columns) }
+    requires { (store.old.stored.versions ≡ []) ⊎ (store.old.stored.key ≡ key_places table.now.columns) }
     ensures stored { OnOk result (store.new.stored
-        ≡ with_versions (key_places def.now.columns) store.old.stored.versions store.old.stored) }
+        ≡ with_versions (key_places table.now.columns) store.old.stored.versions store.old.stored) }
     ensures room { OnOk result (store.new.room ≡ count) }
-    ensures open { OnOk result (IsOpen def.now.id ctx.new) }
+    ensures open { OnOk result (IsOpen table.now.id ctx.new) }
     ensures err { OnErr result (store.new.stored ≡ store.old.stored) }
     ensures context { (h : H) (o : OpenTransaction) → Represents H.digest h ctx.old o
         → Represents H.digest h ctx.new o }
 {
     store.reserve(count)?;
-    ctx.open_tree(def.id)?;
-    store.set_key(alloc, def.columns.as_slice())
+    ctx.open_tree(table.def().id)?;
+    store.set_key(alloc, table.columns())
 }

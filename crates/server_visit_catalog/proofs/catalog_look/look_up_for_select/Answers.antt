@@ -22,10 +22,11 @@ returns-then-is_system c = shown_rows c.args.catalog.now c.args.q.now c.in-Some.
     (Ok c.in_ok-read.field-0) c.in_ok-read.ensures.rows c.in_ok-read.ensures.refused c.in_ok-read.field-0 refl
 
 pub returns-in_err-check_select : goal.returns-in_err-check_select
-returns-in_err-check_select c = select_err c.args.catalog.now c.args.q.now c.in-Some.def.now c.in-Some.part c.of.result c.from_residual-in_err-check_select.result c.in_err-check_select.field-0.0
-    c.from_residual-in_err-check_select.ensures.1 (sym c.in-Some.ensures) c.of.ensures c.in_err-check_select.ensures
+returns-in_err-check_select c = select_err c.args.catalog.now c.args.q.now c.get.result.now c.in-Some.part c.of.result c.from_residual-in_err-check_select.result c.in_err-check_select.field-0.0
+    c.from_residual-in_err-check_select.ensures.1 (sym c.in-Some.ensures ∙ ap (λ (d : TableDef). Some (d, c.in-Some.part)) (sym c.get.ensures)) c.of.ensures c.in_err-check_select.ensures
 
 pub returns : goal.returns
-returns c = subst (λ (def : TableDef). IsFound c.args.catalog.now (st.Select c.args.q.now) (def, c.in-Some.part)) (sym c.in_ok-def.ensures)
-    (found_select c.args.catalog.now c.args.q.now c.in-Some.def.now c.in-Some.part (sym c.in-Some.ensures) (not_system c.in-Some.part (sym c.is_system.ensures ∙ c.if-is_system.false))
+returns c = subst (λ (def : TableDef). IsFound c.args.catalog.now (st.Select c.args.q.now) (def, c.in-Some.part)) (c.get.ensures ∙ sym c.in_ok-def.ensures)
+    (found_select c.args.catalog.now c.args.q.now c.get.result.now c.in-Some.part (sym c.in-Some.ensures ∙ ap (λ (d : TableDef). Some (d, c.in-Some.part)) (sym c.get.ensures))
+    (not_system c.in-Some.part (sym c.is_system.ensures ∙ c.if-is_system.false))
     (sym (c.in_ok-check_select.ensures ∙ ap (λ (cs : List ColumnDef). select_check cs c.args.q.now) c.of.ensures)))

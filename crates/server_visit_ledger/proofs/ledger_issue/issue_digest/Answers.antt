@@ -1,6 +1,7 @@
 use Rattle.std.proofs.Common.{ap, ◌∙◌, rules}
 use Rattle.sql_types.specs.declared.reply.Reply.{Reply}
-use Rattle.server_visit_ledger.specs.LedgerMoves.{moved, unsaid}
+use Rattle.server_session.specs.Stages.{unsaid}
+use Rattle.server_visit_ledger.specs.LedgerMoves.{moved}
 use Rattle.server_session.specs.declared.stage.ControlPoint.TheVariants.{Inside}
 use Rattle.server_visit_ledger.proofs.Ledger.{keeps_there}
 use Rattle.server_visit_ledger.proofs.LedgerIssues.{issues_it}

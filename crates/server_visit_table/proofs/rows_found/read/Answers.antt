@@ -1,9 +1,8 @@
-use Rattle.std.proofs.Common.{◌∙◌, Result, ap, subst, sym}
+use Rattle.std.proofs.Common.{◌∙◌, Result, subst, sym}
 use Rattle.sql_value.specs.declared.refusal.Refusal.{Refusal}
 use Rattle.sql_types.specs.declared.reply.Reply.{Reply}
 use Rattle.sql_types.specs.declared.statement.Stmt.TheVariants as stmt
 use Rattle.sql_types.specs.declared.table.TableDef.{TableDef}
-use Rattle.spec_model.specs.Locks.{query_requests}
 use Rattle.server_visit_table.specs.InTable.{HasRun}
 use Rattle.server_visit_table.proofs.RowsRan.{has_read, stopped_for_memory}
 use Rattle.server_visit_table.proofs.rows_found.read.Goals as goal
@@ -16,7 +15,9 @@ returns-in_err-requests g c = stopped_for_memory g.H.Hash32.digest c.args.rows.n
 
 pub returns : goal.returns
 returns g c =
-    subst (λ (r : Result Reply Refusal). HasRun g.H.Hash32.digest c.args.rows.now c.args.context.now (c.args.def.now, c.args.part) (stmt.Select c.args.q.now) r c.read.new.self c.args.context.now) (sym c.reply_read.ensures)
-    (has_read g.H.Hash32.digest c.args.rows.now c.read.new.self c.args.context.now (c.args.def.now, c.args.part) c.id.result c.id.ensures c.args.q.now c.deref-2.result.now
-    (c.deref-2.ensures.value ∙ c.in_ok-requests.ensures ∙ ap (λ (d : TableDef). query_requests (d, c.args.part) c.args.q.now) c.new.ensures)
-    c.read.result c.read.ensures.ok c.read.ensures.stopped)
+    let table = c.new-table.result in
+    subst (λ (d : TableDef). HasRun g.H.Hash32.digest c.args.rows.now c.args.context.now (d, c.args.part) (stmt.Select c.args.q.now) c.reply_read.result c.read.new.self c.args.context.now) c.new-table.ensures
+    (subst (λ (r : Result Reply Refusal). HasRun g.H.Hash32.digest c.args.rows.now c.args.context.now (table, c.args.part) (stmt.Select c.args.q.now) r c.read.new.self c.args.context.now) (sym c.reply_read.ensures)
+    (has_read g.H.Hash32.digest c.args.rows.now c.read.new.self c.args.context.now (table, c.args.part) c.id.result c.id.ensures c.args.q.now c.deref-2.result.now
+    (c.deref-2.ensures.value ∙ c.in_ok-requests.ensures)
+    c.read.result c.read.ensures.ok c.read.ensures.stopped))

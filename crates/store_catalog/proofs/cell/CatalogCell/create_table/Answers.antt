@@ -1,12 +1,12 @@
-use Rattle.std.proofs.Common.{◌≡◌, refl, sym, ap, subst, ◌∙◌, List, length, arith}
-use Rattle.std.specs.Prelude.{Some, None}
+use Rattle.std.proofs.Common.{◌≡◌, refl, sym, ap, subst, ◌∙◌, List, length, arith, Option}
 use Rattle.sql_types.specs.declared.change.Change.{Change}
 use Rattle.spec_model.specs.SystemTables.{columns_id}
 use Rattle.law_journal.proofs.Created.{created}
 use Rattle.spec_protocol.specs.Cells.{CatalogCell}
 use Rattle.store_table.specs.Stored.{Stored}
 use Rattle.store_catalog.specs.Calls.{TableMade}
-use Rattle.store_catalog.specs.Definitions.{creator_seen}
+use Rattle.store_catalog.specs.Definitions.{creator_seen, AreFormed, MayTakeBack}
+use Rattle.store_catalog.specs.declared.definitions.Creator.{Creator}
 use Rattle.store_catalog.proofs.Creates.{has_table, made_before}
 use Rattle.store_catalog.proofs.DefsKept.{formed_after}
 use Rattle.store_catalog.proofs.Entering.{entered, leaves_room}
@@ -66,7 +66,7 @@ invariant_of-self-2 g c =
     let s = c.self.inside in
     let new = c.in_ok-def.field-0 in
     let both = formed_after s.defs c.push.new.self new.def c.in_ok-push.ensures.ok c.self.invariant.0 (created s.defs c.args.create.now new.def c.in_ok-def.ensures.passes) in
-    (both.0, (both.1, tt))
+    subst (λ (x : Option Creator). AreFormed c.push.new.self × MayTakeBack c.push.new.self x) (sym c.put_creator.ensures) (both.0, (both.1, tt))
 
 pub returns-clause-ok : goal.returns-clause-ok
 returns-clause-ok g c =
@@ -81,12 +81,12 @@ returns-clause-ok g c =
     let sl = c.as_slice-2.result.now in
     let ds = c.push.new.self in
     let cell : CatalogCell = record { defs = s.defs; creator = creator_seen s.defs s.creator; tables = s.tables.stored.versions; columns = s.columns.stored.versions; holds = s.locks } in
-    let after : CatalogCell = record { defs = ds; creator = creator_seen ds (Some (record { tx = tx; replaced = None })); tables = c.carry_out.new.rows.stored.versions; columns = c.carry_out-2.new.rows.stored.versions; holds = s.locks } in
+    let after : CatalogCell = record { defs = ds; creator = creator_seen ds c.put_creator.new.place; tables = c.carry_out.new.rows.stored.versions; columns = c.carry_out-2.new.rows.stored.versions; holds = s.locks } in
     let changes_worked_out = c.in_ok-def.ensures in
     let old_tables = made_before m.o.id m.o.seq tx seq c.args.self.now.tables cell.tables (sym (c.id-tx.ensures m.h m.o m.is)) (sym (c.seq-seq.ensures m.h m.o m.is)) (sym (ap (λ (x : CatalogCell). x.tables) c.self.view_is)) m.tables in
     let old_columns = made_before m.o.id m.o.seq tx seq c.args.self.now.columns cell.columns (sym (c.id-tx.ensures m.h m.o m.is)) (sym (c.seq-seq.ensures m.h m.o m.is)) (sym (ap (λ (x : CatalogCell). x.columns) c.self.view_is)) m.columns in
     let e = entered cell tx seq create new changes_worked_out fl sl c.as_slice.ensures c.as_slice-2.ensures after c.reserve.new.tables.stored.versions c.reserve.new.columns.stored.versions old_tables old_columns
-    c.in_ok-push.ensures.ok refl
+    c.in_ok-push.ensures.ok (ap (creator_seen ds) c.put_creator.ensures)
     (ap (λ (t : Stored). t.versions) c.reserve.ensures.tables) (ap (λ (t : Stored). t.versions) c.reserve.ensures.columns) c.carry_out.ensures c.carry_out-2.ensures refl in
     subst (λ (x : CatalogCell). TableMade digest x c.args.ctx.now create after c.note_both.new.ctx) c.self.view_is
     (record {

@@ -1,0 +1,7 @@
+//! A value with several owners.
+#![tactic(auto)]
+
+mod shared;
+
+pub use base_types::Memory;
+pub use shared::Shared;
