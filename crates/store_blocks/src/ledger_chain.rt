@@ -1,12 +1,13 @@
 //! The books of a database.
 
-ghost use Rattle.std.specs.Prelude.{ℕ, ◌≡◌, ◌≤◌, ◌+◌, ◌++◌, List, length, OnOk, OnErr};
+ghost use Rattle.std.specs.Prelude.{◌≡◌, ◌≤◌, ◌<◌, ◌+◌, ◌++◌, length, IfOk, OnOk, OnErr};
 ghost use Rattle.format_entry.specs.Entry.{IsEntry};
-ghost use Rattle.spec_ledger.specs.Blocks.{no_hash, last_hash};
+ghost use Rattle.spec_ledger.specs.Blocks.{no_hash};
 ghost use Rattle.spec_ledger.specs.Ledger.{empty_ledger, commits, closes};
+ghost use Rattle.store_blocks.specs.Closings.{AreFull, all_placed, closed_by, placed_first, takes, with_pending};
 ghost use Rattle.store_blocks.specs.LedgerChain.{KeepsHash};
 
-use crate::placing::{place_at, place_from};
+use crate::placing::{place_at, place_between};
 use base_merkle::Hash32;
 use base_types::{Items, Memory};
 use format_entry::block_hash;
@@ -103,13 +104,24 @@ impl LedgerChain {
         Ok(())
     }
 
-    /// Closes a block of the first `count` entries that are pending; those behind them get their places anew.
-    /// It hashes each of these entries, about one node for each, and the record. For want of memory nothing
-    /// changes.
-    pub fn close<H: Hash32>(&mut self, alloc: Global, h: H, count: usize) -> Result<(), Memory>
+    // Gives the first `count` entries that are pending their places in the next block.
+    fn place_first(&mut self, count: usize)
+        requires { count ≤ length self.old.ledger.pending }
+        ensures ledger { self.new.ledger
+            ≡ with_pending (placed_first (length self.old.ledger.blocks) count self.old.ledger.pending) self.old.ledger }
+        ensures hash { self.new.hash ≡ self.old.hash }
+    {
+        let end = self.closed + count;
+        let block = self.blocks.len() as u64;
+        place_between(&mut self.entries, self.closed, end, block);
+    }
+
+    // Makes a block of the first `count` entries that are pending; those behind them keep the places that they have.
+    // For want of memory nothing changes.
+    fn take_block<H: Hash32>(&mut self, alloc: Global, h: H, count: usize) -> Result<(), Memory>
         requires count { count ≤ length self.old.ledger.pending }
         requires hash { KeepsHash (H.digest h) self.old }
-        ensures ledger { OnOk result (self.new.ledger ≡ closes (H.digest h) count self.old.ledger) }
+        ensures ledger { OnOk result (self.new.ledger ≡ takes (H.digest h) count self.old.ledger) }
         ensures hash { OnOk result (KeepsHash (H.digest h) self.new) }
         ensures err { OnErr result (self.new ≡ self.old) }
     {
@@ -121,10 +133,52 @@ impl LedgerChain {
             previous: self.hash,
         };
         self.blocks.push(block)?;
-        place_from(&mut self.entries, end, self.blocks.len() as u64);
         self.closed = end;
         self.hash = block_hash(h, &block);
         Ok(())
+    }
+
+    /// Closes a block of the first `count` entries that are pending; those behind them get their places anew.
+    /// It hashes each of these entries, about one node for each, and the record. For want of memory nothing
+    /// changes.
+    pub fn close<H: Hash32>(&mut self, alloc: Global, h: H, count: usize) -> Result<(), Memory>
+        requires count { count ≤ length self.old.ledger.pending }
+        requires hash { KeepsHash (H.digest h) self.old }
+        ensures ledger { OnOk result (self.new.ledger ≡ closes (H.digest h) count self.old.ledger) }
+        ensures hash { OnOk result (KeepsHash (H.digest h) self.new) }
+        ensures err { OnErr result (self.new ≡ self.old) }
+    {
+        self.take_block(alloc, h, count)?;
+        self.place_first(self.pending());
+        Ok(())
+    }
+
+    /// Closes blocks of the first `size` entries that are pending as long as there are so many, and answers how many
+    /// it closed. Each entry that gets into a block gets its place once for it, and each that stays pending once for
+    /// all; it hashes as `close` does.
+    pub fn close_full<H: Hash32>(
+        self,
+        alloc: Global,
+        h: H,
+        size: usize,
+    ) -> Result<(LedgerChain, u64), Memory>
+        requires some { 1 ≤ size }
+        requires hash { KeepsHash (H.digest h) self }
+        requires placed { self.ledger ≡ all_placed self.ledger }
+        ensures ledger { IfOk result (λ r. r.0.ledger ≡ closed_by (H.digest h) r.1 size self.ledger) }
+        ensures full { IfOk result (λ r. AreFull (H.digest h) r.1 size self.ledger) }
+        ensures few { IfOk result (λ r. length r.0.ledger.pending < size) }
+        ensures hash { IfOk result (λ r. KeepsHash (H.digest h) r.0) }
+    {
+        let mut chain = self;
+        let mut count = 0;
+        'closings: while chain.pending() >= size {
+            chain.place_first(size);
+            chain.take_block(alloc, h, size)?;
+            count += 1;
+        }
+        chain.place_first(chain.pending());
+        Ok((chain, count))
     }
 
     /// The blocks and the entries in ledger order.

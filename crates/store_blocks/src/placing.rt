@@ -1,6 +1,6 @@
 //! The places of entries in blocks.
 
-ghost use Rattle.std.specs.Prelude.{◌≡◌, ◌≤◌, ◌++◌, length, take, drop};
+ghost use Rattle.std.specs.Prelude.{◌≡◌, ◌≤◌, ◌-◌, ◌++◌, length, take, drop};
 ghost use Rattle.spec_ledger.specs.Entries.{at_place, placed};
 
 use sql_types::TxEntry;
@@ -13,13 +13,14 @@ pub(crate) fn place_at(entry: &mut TxEntry, block: u64, ordinal: u64)
     entry.ordinal = ordinal;
 }
 
-/// Puts the entries from this one on at the places of a block, from its first one on.
-pub(crate) fn place_from(entries: &mut Vec<TxEntry>, from: usize, block: u64)
-    requires { from ≤ length entries.old.items }
-    ensures { entries.new.items
-        ≡ take from entries.old.items ++ placed block 0 (drop from entries.old.items) }
+/// Puts the entries from this one on and before that one at the places of a block, from its first one on.
+pub(crate) fn place_between(entries: &mut Vec<TxEntry>, from: usize, behind: usize, block: u64)
+    requires order { from ≤ behind }
+    requires within { behind ≤ length entries.old.items }
+    ensures { entries.new.items ≡ take from entries.old.items
+        ++ (placed block 0 (take (behind - from) (drop from entries.old.items)) ++ drop behind entries.old.items) }
 {
-    for place in from..entries.len() {
+    for place in from..behind {
         place_at(&mut entries[place], block, (place - from) as u64);
     }
 }

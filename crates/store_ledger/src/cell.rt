@@ -37,12 +37,12 @@ pub struct IssuedDigest {
 /// Contracts see the cell of which the laws on visits speak, and the hash of its last block.
 #[derive(Drop)]
 pub struct LedgerCell {
-    database: Name,
-    block_size: u32,
-    items: Vec<JournalItem>,
-    next: TxId,
-    ledger_chain: LedgerChain,
-    issued: Vec<Digest>,
+    pub(crate) database: Name,
+    pub(crate) block_size: u32,
+    pub(crate) items: Vec<JournalItem>,
+    pub(crate) next: TxId,
+    pub(crate) ledger_chain: LedgerChain,
+    pub(crate) issued: Vec<Digest>,
 }
 
 impl Model for LedgerCell {

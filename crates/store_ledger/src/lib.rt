@@ -4,6 +4,7 @@
 mod cell;
 mod commit_err;
 mod digest_err;
+mod going_on;
 mod laws;
 
 pub use cell::{IssuedDigest, LedgerCell};
