@@ -1,5 +1,5 @@
 mod Agrees
-mod Comes
+pub mod Comes
 mod DigestsBefore
 mod Images
 mod Meets

@@ -8,8 +8,10 @@ use Rattle.spec_history.proofs.Settles.{in_left, in_right}
 use Rattle.spec_history.proofs.Trace.{each_append, each_weaker}
 use Rattle.spec_protocol.specs.Seats.{Written}
 use Rattle.law_protocol_steps.proofs.AfterSet.{all_at, each_at}
-use Rattle.law_concurrent.specs.CameTo.{CameTo, RunResult}
-use Rattle.law_concurrent.specs.Threads.{HasJoined}
+use Rattle.law_behind.specs.Past.{Past, since}
+use Rattle.law_concurrent.specs.CameTo.{RunResult}
+use Rattle.law_concurrent.specs.CameToBehind.{CameToBehind}
+use Rattle.law_concurrent.specs.JoinedBehind.{HasJoinedBehind}
 
 -- the moments of all sessions
 abbrev moments_of : List Written → List ℕ
@@ -28,20 +30,21 @@ each_its (w ∷ ws) = (
 )
 
 abbrev pub ForMoments : Type 0
-ForMoments = (h : List ℕ → List ℕ) (database : Text) (size : ℕ) (moments : List ℕ) (input : List InputSession) (r : RunResult)
-    → HasJoined h database size (λ time. In time moments) input r → CameTo h database size (λ time. In time moments) input r
+ForMoments = (h : List ℕ → List ℕ) (database : Text) (size : ℕ) (past : Past) (moments : List ℕ) (input : List InputSession) (r : RunResult)
+    → HasJoinedBehind h database size past (λ time. In time moments) input r → CameToBehind h database size past (λ time. In time moments) input r
 
-module _ (law : ForMoments) (h : List ℕ → List ℕ) (database : Text) (size : ℕ) (IsSaid : ℕ → Type 0) (input : List InputSession) (r : RunResult) (x : HasJoined h database size IsSaid input r) where
+module _ (h : List ℕ → List ℕ) (database : Text) (size : ℕ) (past : Past) (IsSaid : ℕ → Type 0) (input : List InputSession) (r : RunResult) (x : HasJoinedBehind h database size past IsSaid input r) where
   abbrev moments : List ℕ
   moments = moments_of (x.first ∷ x.others)
 
   is_said : (time : ℕ) → In time moments → IsSaid time
   is_said time i = each_at IsSaid moments time (all_said IsSaid (x.first ∷ x.others) x.moments) i
 
-  joined : HasJoined h database size (λ time. In time moments) input r
-  joined = record {
+  at_moments : HasJoinedBehind h database size past (λ time. In time moments) input r
+  at_moments = record {
     v = x.v;
     serves = x.serves;
+    start = x.start;
     cells = x.cells;
     first = x.first;
     others = x.others;
@@ -65,15 +68,15 @@ module _ (law : ForMoments) (h : List ℕ → List ℕ) (database : Text) (size 
     digests = x.digests;
   }
 
-  pub came_so : CameTo h database size IsSaid input r
-  came_so = let c = law h database size moments input r joined in record {
+  pub came_so : ForMoments → CameToBehind h database size past IsSaid input r
+  came_so law = let c = law h database size past moments input r at_moments in record {
     agree = c.agree;
     in_order = c.in_order;
     version = c.version;
     legal = c.legal;
     of_database = c.of_database;
     closings = c.closings;
-    times = each_weaker (λ time. In time moments) IsSaid is_said (times r.J.items) c.times;
+    times = each_weaker (λ time. In time moments) IsSaid is_said (times (since past r.J.items)) c.times;
     made = each_weaker (λ (d : Digest). In d.made moments) (λ d. IsSaid d.made) (λ d i. is_said d.made i) r.G c.made;
     shown = c.shown;
     are_images = c.are_images;

@@ -1,3 +1,4 @@
 pub mod Laws
 pub mod ServedDatabase
 pub mod SomeServer
+pub mod StartsWith

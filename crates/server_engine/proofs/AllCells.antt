@@ -10,8 +10,9 @@ use Rattle.spec_protocol.specs.AllowedVisit.{OutsAreIn}
 use Rattle.spec_protocol.specs.Seats.{KeptImage}
 use Rattle.spec_protocol.specs.Server.{Server}
 use Rattle.spec_protocol.specs.Serves.{Serves}
-use Rattle.law_sequential.specs.Sessions.{SessionOutput, told_with, SessionsStand}
-use Rattle.law_sequential.proofs.SeatOn.{visit_on}
+use Rattle.law_sequential.specs.Sessions.{SessionOutput, told_with}
+use Rattle.law_sequential.specs.SessionsBehind.{SessionsStandBehind}
+use Rattle.law_sequential.proofs.SeatOnBehind.{visit_on}
 use Rattle.server_session.specs.KeptCell.{KeptCell}
 use Rattle.server_session.specs.Needs.{need_of}
 use Rattle.server_session.specs.Sits.{Sits}
@@ -74,10 +75,10 @@ module _ {H : Type 0} (digest : H → List ℕ → List ℕ) (h : H) {v : Server
     h = h;
     v = v;
     serves = serves;
-    seats = o.stand.parent ∷ o.states;
+    seats = o.start.begins.seat ∷ o.stand.parent ∷ o.states;
     together = one.together digest h o;
     needs = needs;
-    j = suc j;
+    j = suc (suc j);
     s = one.s digest h o j y there others;
     there = (one.its digest h o j y there others).there;
     sits = w;
@@ -101,8 +102,8 @@ module _ {H : Type 0} (digest : H → List ℕ → List ℕ) (h : H) {v : Server
   -- it keeps an image
   first_goes : OnServer digest h v a (slice_set told j (told_with k [] (images_kept kept))) (cells_seen (c ∷ cs)) (slice_set seats j z)
   unfolding among_all
-  first_goes = one.with_seat digest h o j y there others k is_told a (slice_set told j (told_with k [] (images_kept kept))) (cells_seen (c ∷ cs)) z g.t
-      (subst₂ (λ (ls : List InputLine) (ms : List ℕ). SessionsStand v a.database a.size a.phase ls ms (slice_set told j (told_with k [] (images_kept kept))) (cells_seen (c ∷ cs)) (slice_set o.states j g.t))
+  first_goes = one.with_seat digest h o j y there others k is_told a o.start (slice_set told j (told_with k [] (images_kept kept))) (cells_seen (c ∷ cs)) z g.t
+      (subst₂ (λ (ls : List InputLine) (ms : List ℕ). SessionsStandBehind o.start a.phase ls ms (slice_set told j (told_with k [] (images_kept kept))) (cells_seen (c ∷ cs)) (slice_set o.states j g.t))
       (ap (λ (ls : List InputLine). a.lines ++ ls) (g.lines 0 c.cell (rest_of (cells_seen cs)) out) ∙ append-nil a.lines) (append-nil a.moments)
       (visit_on o.stand j (one.s digest h o j y there others) (one.its digest h o j y there others).there k is_told (one.others_inactive digest h o j y there others) ((0, c.cell) ∷ rest_of (cells_seen cs)) out.are_out 0 c.cell g.t
       (g.may 0 c.cell (rest_of (cells_seen cs)) out) (visit_phased a.phase (g.may 0 c.cell (rest_of (cells_seen cs)) out) (g.lines 0 c.cell (rest_of (cells_seen cs)) out) its_fit (g.did 0 c.cell (rest_of (cells_seen cs)) out))

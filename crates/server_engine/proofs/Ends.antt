@@ -6,7 +6,6 @@ use lib.ListN.{get_elem?}
 use Rattle.sql_types.specs.declared.journal.TheConstants.{JOURNAL_VERSION}
 use Rattle.sql_types.specs.declared.digest.Digest.{Digest}
 use Rattle.sql_types.specs.declared.journal.JournalItem.{JournalItem}
-use Rattle.spec_model.specs.Limits.{max_block}
 use Rattle.spec_history.specs.Lists.{Text, Each}
 use Rattle.spec_history.specs.Transcripts.{Transcript}
 use Rattle.format_image.specs.Image.{image_of}
@@ -20,12 +19,14 @@ use Rattle.spec_protocol.specs.InactiveExcept as law
 use Rattle.spec_protocol.specs.Seats.{KeptImage, OpenTransaction, Session as LawSession, idle, session, SeatState, IsAtRest, split}
 use Rattle.spec_protocol.specs.Server.{Server}
 use Rattle.spec_protocol.specs.StandTogether.{StandTogether}
+use Rattle.law_behind.specs.Past.{Past}
 use Rattle.spec_protocol.specs.Serves.{Serves}
 use Rattle.law_sequential.specs.EndsLast.{running}
-use Rattle.law_sequential.specs.Sessions.{SessionOutput, told_nothing, SessionsStand}
-use Rattle.law_sequential.specs.SessionOutput.{HasEnded}
-use Rattle.law_sequential.proofs.Goes.{since, ledger_is}
-use Rattle.law_sequential.proofs.SessionsStand.{sessions_stand_first, one_session_more, sessions_have_ended}
+use Rattle.law_sequential.specs.OutcomeBehind.{HasEndedBehind}
+use Rattle.law_sequential.specs.Sessions.{SessionOutput, told_nothing}
+use Rattle.law_sequential.specs.SessionsBehind.{SessionsStandBehind}
+use Rattle.law_sequential.proofs.GoesBehind.{since, ledger_is}
+use Rattle.law_sequential.proofs.SessionsStandBehind.{sessions_stand_first, one_session_more, sessions_have_ended}
 use Rattle.server_visits.specs.Full.{IsLedger}
 use Rattle.server_visits.specs.Images.{AreImageBytes, CellsStand, JournalFitsFormat}
 use Rattle.server_session.specs.KeptCell.{KeptCell}
@@ -35,16 +36,15 @@ use Rattle.server_session.specs.Steps.{Begins}
 use Rattle.server_session.specs.declared.running.Running.{Running}
 use Rattle.server_session.specs.declared.seat.Seat.{Seat}
 use Rattle.server_visits.proofs.ImagesOfCells.{bytes_are_the_journals}
-use Rattle.server_engine.specs.CoreInput.{CoreInput, nothing_asked, with_session}
-use Rattle.server_engine.specs.FirstCells.{first_kept}
+use Rattle.server_engine.specs.CoreInput.{CoreInput, nothing_asked_behind, with_session}
 use Rattle.server_engine.specs.Parts.{HasLeft}
 use Rattle.server_engine.specs.Standing.{entry_texts, cells_seen, seats_seen, pending_at, pending_found, Pairwise, Shows, SitsOrIsOver, IsInactive, IsTimed, OnServer, Holds, Stands, IsEnded}
+use Rattle.server_engine.specs.Starts.{StartsBehind}
 use Rattle.server_engine.specs.Written.{texts_shown}
 use Rattle.server_engine.specs.declared.one_thread.Core.{Core}
 use Rattle.server_engine.specs.declared.parts.Parts.{Parts}
 use Rattle.server_engine.specs.declared.session.Session.{Session}
 use Rattle.server_engine.proofs.AnonymousActs.{one_session}
-use Rattle.server_engine.proofs.FirstCells.{first_keep, first_same}
 use Rattle.server_engine.proofs.Holding as holding
 use Rattle.server_engine.proofs.Holding.{none_lies, shown_entries}
 use Rattle.server_engine.proofs.Midways.{found_is}
@@ -56,25 +56,34 @@ use Rattle.server_engine.proofs.Turns.{stand_at_end}
 
 -- ---- the beginning
 
-pub begins : {H : Type 0} (digest : H → List ℕ → List ℕ) (h : H) (database : Text) (size : ℕ) → 1 ≤ size → size ≤ max_block → (c : Core H) → c.hasher ≡ h → c.cells.items ≡ first_kept database size → c.sessions.items ≡ []
-    → Stands digest h c (nothing_asked database size)
-begins {H} digest h database size least most c hasher cells_are sessions_are = record {
-  hasher = hasher;
-  holds = subst₂ (λ (cs : List KeptCell) (ys : List (Session H)). Holds digest h cs ys (nothing_asked database size)) (sym cells_are) (sym sessions_are) (record {
-    told = [];
-    names = refl;
-    shown = tt;
-    keep = first_keep (digest h) database size;
-    timed = tt;
-    served = λ v serves. record {
-      states = [];
-      stand = subst (λ (cs : List Cell). SessionsStand v database size running [] [] [] cs []) (sym (first_same database size)) (sessions_stand_first v database size least most);
-      sit = tt;
-    };
-  });
-  quiet = subst (λ (ys : List (Session H)). Each IsInactive (seats_seen ys)) (sym sessions_are) tt;
-  within = subst (λ (cs : List KeptCell). pending_at (cells_seen cs) ≤ size) (sym cells_are) (omega arith);
-}
+module _ {H : Type 0} (digest : H → List ℕ → List ℕ) (h : H) (database : Text) (size : ℕ) (past : Past) (cells : List KeptCell) (starts : StartsBehind (digest h) database size past cells) where
+  begins_on : (v : Server) → Serves (digest h) statement_of v → OnServer digest h v (nothing_asked_behind past database size) [] (cells_seen cells) []
+  begins_on v serves = let s = starts.starts v serves in record {
+    start = s.0;
+    states = [];
+    stand = subst (λ (cs : List Cell). SessionsStandBehind s.0 running [] [] [] cs []) s.1 (sessions_stand_first s.0);
+    sit = tt;
+  }
+
+  few_pending : pending_at (cells_seen cells) ≤ size
+  few_pending = let v = some_server (digest h) statement_of in let s = starts.starts v.0 v.1 in
+      let few : pending_at s.0.begins.cells < size = subst (λ (n : ℕ). n < size) (sym (ap pending_found s.0.begins.stands.are_cells.has_ledger)) s.0.begins.below in
+      let now = subst (λ (cs : List Cell). pending_at cs < size) s.1 few in omega (arith, now)
+
+  pub begins : (c : Core H) → c.hasher ≡ h → c.cells.items ≡ cells → c.sessions.items ≡ [] → Stands digest h c (nothing_asked_behind past database size)
+  begins c hasher cells_are sessions_are = record {
+    hasher = hasher;
+    holds = subst₂ (λ (cs : List KeptCell) (ys : List (Session H)). Holds digest h cs ys (nothing_asked_behind past database size)) (sym cells_are) (sym sessions_are) (record {
+      told = [];
+      names = refl;
+      shown = tt;
+      keep = starts.keep;
+      timed = tt;
+      served = begins_on;
+    });
+    quiet = subst (λ (ys : List (Session H)). Each IsInactive (seats_seen ys)) (sym sessions_are) tt;
+    within = subst (λ (cs : List KeptCell). pending_at (cells_seen cs) ≤ size) (sym cells_are) few_pending;
+  }
 
 -- ---- a session more
 
@@ -96,6 +105,7 @@ module _ {H : Type 0} (digest : H → List ℕ → List ℕ) (h : H) (a : CoreIn
   on_server : (v : Server) → OnServer digest h v a m.holds.told (cells_seen c.cells.items) (seats_seen c.sessions.items)
       → OnServer digest h v (with_session name a) (m.holds.told ++ told_nothing name ∷ []) (cells_seen c.cells.items) (seats_seen c.sessions.items ++ y.seat ∷ [])
   on_server v o = let s = split o.stand.parent 1 in record {
+    start = o.start;
     states = o.states ++ sits s (new_session name s) ∷ [];
     stand = one_session_more o.stand (all_states_quiet m.holds.told o.states o.sit) name;
     sit = both_last (SitsOrIsOver digest h) (seats_seen c.sessions.items) o.states o.sit y.seat (sits s (new_session name s)) (inl (its_begin v s o.stand.present refl).sits);
@@ -163,9 +173,9 @@ module _ {H : Type 0} (digest : H → List ℕ → List ℕ) (h : H) (a : CoreIn
     below_now : pending_at (cells_seen c.cells.items) < a.size → pending_in l < a.size
     below_now below = subst (λ (n : ℕ). n < a.size) (ap pending_found lies) below
 
-    ended_on : pending_at (cells_seen c.cells.items) < a.size → (v : Server) → Serves (digest h) statement_of v → HasEnded v a.database a.size a.names a.lines a.moments (map (λ k. k.transcript) told) (map (λ k. k.images) told) l.items l.issued
+    ended_on : pending_at (cells_seen c.cells.items) < a.size → (v : Server) → Serves (digest h) statement_of v → HasEndedBehind v a.database a.size a.past a.names a.lines a.moments (map (λ k. k.transcript) told) (map (λ k. k.images) told) l.items l.issued
     ended_on below v serves = let o = m.holds.served v serves in
-        subst (λ (ns : List Text). HasEnded v a.database a.size ns a.lines a.moments (map (λ k. k.transcript) told) (map (λ k. k.images) told) l.items l.issued) m.holds.names
+        subst (λ (ns : List Text). HasEndedBehind v a.database a.size a.past ns a.lines a.moments (map (λ k. k.transcript) told) (map (λ k. k.images) told) l.items l.issued) m.holds.names
         (sessions_have_ended (stand_at_end a.phase o.stand) (all_rest o.states o.sit) l lies (below_now below) ids)
 
     pub database_is : (v : Server) → Serves (digest h) statement_of v → l.database ≡ a.database
@@ -189,8 +199,8 @@ module _ {H : Type 0} (digest : H → List ℕ → List ℕ) (h : H) (a : CoreIn
       names = map_twice (λ (k : SessionOutput). k.transcript) (λ (x : Transcript). x.session) told ∙ m.holds.names;
       version = version;
       database = database ∙ database_is some_v some_serves;
-      ended = λ v serves. subst₂ (λ (J : List JournalItem) (G : List Digest). HasEnded v a.database a.size a.names a.lines a.moments (map (λ k. k.transcript) told) (map (λ y. y.images) p.sessions.items) J G) (sym items) (sym issued)
-          (subst (λ (images : List (List KeptImage)). HasEnded v a.database a.size a.names a.lines a.moments (map (λ k. k.transcript) told) images l.items l.issued) (sym images_are) (ended_on below v serves));
+      ended = λ v serves. subst₂ (λ (J : List JournalItem) (G : List Digest). HasEndedBehind v a.database a.size a.past a.names a.lines a.moments (map (λ k. k.transcript) told) (map (λ y. y.images) p.sessions.items) J G) (sym items) (sym issued)
+          (subst (λ (images : List (List KeptImage)). HasEndedBehind v a.database a.size a.past a.names a.lines a.moments (map (λ k. k.transcript) told) images l.items l.issued) (sym images_are) (ended_on below v serves));
     }
       where
         images_are : map (λ (y : Session H). y.images) p.sessions.items ≡ map (λ k. k.images) told
@@ -214,7 +224,7 @@ module _ {H : Type 0} (digest : H → List ℕ → List ℕ) (h : H) (a : CoreIn
     sized = sized;
     v = v.0;
     serves = v.1;
-    seats = o.stand.parent ∷ o.states;
+    seats = o.start.begins.seat ∷ o.stand.parent ∷ o.states;
     together = one.together digest h o;
   }
 
@@ -233,7 +243,7 @@ module _ {H : Type 0} (digest : H → List ℕ → List ℕ) (h : H) (a : CoreIn
   serves : Serves (digest h) statement_of v
   serves = (some_server (digest h) statement_of).1
 
-  together_here : StandTogether v (cells_seen c.cells.items) ((m.holds.served v serves).stand.parent ∷ (m.holds.served v serves).states)
+  together_here : StandTogether v (cells_seen c.cells.items) ((m.holds.served v serves).start.begins.seat ∷ (m.holds.served v serves).stand.parent ∷ (m.holds.served v serves).states)
   together_here = one.together digest h (m.holds.served v serves)
 
   its_ledger : together_here.stands.ledger ≡ l

@@ -12,6 +12,7 @@ pub mod OneServer
 pub mod Pairs
 pub mod Pending
 pub mod Settled
+mod StartingCells
 pub mod Texts
 pub mod Turns
 pub mod Unchanged

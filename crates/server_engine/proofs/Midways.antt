@@ -9,6 +9,7 @@ use Rattle.spec_protocol.specs.Seats.{KeptImage}
 use Rattle.spec_protocol.specs.LedgerVisits.{closed_by}
 use Rattle.spec_protocol.proofs.LedgerNumbers.{pending_after}
 use Rattle.spec_protocol.proofs.Places.{at_set, set_again, set_else, set_here, set_same}
+use Rattle.law_sequential.proofs.GoesBehind.{some_size}
 use Rattle.server_visits.specs.Full.{ClosesFull, ClosesOne}
 use Rattle.server_session.specs.KeptCell.{KeptCell, Keeps}
 use Rattle.server_session.specs.Needs.{need_of, point_need, visits_left}
@@ -254,8 +255,8 @@ module _ {H : Type 0} (digest : H → List ℕ → List ℕ) (h : H) (a : CoreIn
       pending_then = let size = holding.size_is digest h o in ⊎_elim
           (λ (f : (some_ledger.block_size ≤ pending_in some_ledger) × (x_then.cell ≡ Ledger (closed_by (digest h) some_ledger.block_size some_ledger))).
           let p : pending_of x_then.cell ≡ pending_in some_ledger - some_ledger.block_size = ap pending_of f.1 ∙ pending_closed some_ledger.block_size in
-          let some_size = (holding.somewhere digest h o).2.stand.sequential_run.some_size in
-          omega (arith, p, f.0, size, within, pending_now, some_size))
+          let least = some_size (holding.somewhere digest h o).2.stand.sequential_run in
+          omega (arith, p, f.0, size, within, pending_now, least))
           (λ f. let p : pending_of x_then.cell ≡ pending_in some_ledger = ap pending_of f.1 in omega (arith, p, f.0, size))
           closes_so
 

@@ -17,14 +17,20 @@ use Rattle.spec_protocol.specs.InactiveExcept as law
 use Rattle.spec_protocol.specs.Seats.{idle, SeatState}
 use Rattle.spec_protocol.specs.Server.{Server}
 use Rattle.spec_protocol.specs.StandTogether.{StandTogether}
+use Rattle.law_behind.specs.Past.{Past}
 use Rattle.spec_protocol.proofs.Places.{set_same}
 use Rattle.spec_protocol.specs.Serves.{Serves}
 use Rattle.law_sequential.specs.EndsLast.{Phase, ending, InPhase}
-use Rattle.law_sequential.specs.Sessions.{SessionOutput, told_with, Runs, IsOver as HasEnded, IsShown, EachShown, SessionsStand, OthersInactive}
+use Rattle.law_sequential.specs.RunStart.{RunStart}
+use Rattle.law_sequential.specs.Sessions.{SessionOutput, told_with, Runs, IsOver as HasEnded, IsShown, EachShown, OthersInactive}
+use Rattle.law_sequential.specs.SessionsBehind.{SessionsStandBehind}
 use Rattle.law_sequential.specs.InStep.{Waits}
-use Rattle.law_sequential.proofs.Goes.{since, ledger_is, sized, all_silent, close_more}
-use Rattle.law_sequential.proofs.SeatOn.{alone_on, over_now, waits_by_anonymous_acts}
-use Rattle.law_sequential.proofs.SessionsStand.{ShownAt, shown_at, cells_on}
+use Rattle.law_sequential.proofs.Goes.{all_silent}
+use Rattle.law_sequential.proofs.GoesBehind.{since, ledger_is, sized, some_size, close_more}
+use Rattle.law_sequential.proofs.SeatOn.{waits_by_anonymous_acts}
+use Rattle.law_sequential.proofs.SeatOnBehind.{alone_on, over_now}
+use Rattle.law_sequential.proofs.SessionsStand.{ShownAt, shown_at}
+use Rattle.law_sequential.proofs.SessionsStandBehind.{cells_on}
 use Rattle.server_visits.specs.Full.{ClosesOne}
 use Rattle.server_session.specs.KeptCell.{KeptCell, Keeps}
 use Rattle.server_session.specs.Needs.{need_of}
@@ -99,9 +105,9 @@ each_shown_in moments more within (k ∷ ks) [] e = absurd e
 each_shown_in moments more within (k ∷ ks) (s ∷ ss) e = (shown_in moments more within k s e.0, each_shown_in moments more within ks ss e.1)
 
 -- among more moments
-stand_in : {v : Server} {database : Text} {size : ℕ} {phase : Phase} {lines : List InputLine} {moments : List ℕ} (more : List ℕ) {told : List SessionOutput} {cells : List Cell} {states : List SeatState}
-    → ((time : ℕ) → In time moments → In time more) → SessionsStand v database size phase lines moments told cells states → SessionsStand v database size phase lines more told cells states
-stand_in {v} {database} {size} {phase} {lines} {moments} more {told} {cells} {states} within c = record {
+stand_in : {v : Server} {database : Text} {size : ℕ} {past : Past} {start : RunStart v database size past} {phase : Phase} {lines : List InputLine} {moments : List ℕ} (more : List ℕ) {told : List SessionOutput} {cells : List Cell} {states : List SeatState}
+    → ((time : ℕ) → In time moments → In time more) → SessionsStandBehind start phase lines moments told cells states → SessionsStandBehind start phase lines more told cells states
+stand_in {moments = moments} more {told} {cells} {states} within c = record {
   parent = c.parent;
   present = c.present;
   rests = c.rests;
@@ -132,8 +138,9 @@ each_in times = in_itself times times (λ time i. i)
 -- ---- one server
 
 module _ {H : Type 0} (digest : H → List ℕ → List ℕ) (h : H) {v : Server} {a : CoreInput} {told : List SessionOutput} {cells : List Cell} {seats : List (Seat H)} (o : OnServer digest h v a told cells seats) where
-  pub together : StandTogether v cells (o.stand.parent ∷ o.states)
-  together = (since o.stand.sequential_run).later
+  -- behind the seat of the past
+  pub together : StandTogether v cells (o.start.begins.seat ∷ o.stand.parent ∷ o.states)
+  together = let s = since o.stand.sequential_run in record { history = o.start.begins.history ++ s.events; stands = s.stands; locks_were_asked = s.asked; locks_are_requested = s.requested }
 
   abbrev pub ledger : LedgerCell
   ledger = o.stand.sequential_run.ledger
@@ -170,32 +177,32 @@ module _ {H : Type 0} (digest : H → List ℕ → List ℕ) (h : H) {v : Server
 
     module _ (k : SessionOutput) (is_told : get_elem? told j ≡ some k) where
       -- with the seat that is there then
-      pub with_seat : (b : CoreInput) (then_told : List SessionOutput) (then_cells : List Cell) (z : Seat H) (t : SeatState) → SessionsStand v b.database b.size b.phase b.lines b.moments then_told then_cells (slice_set o.states j t)
+      pub with_seat : (b : CoreInput) (start : RunStart v b.database b.size b.past) (then_told : List SessionOutput) (then_cells : List Cell) (z : Seat H) (t : SeatState) → SessionsStandBehind start b.phase b.lines b.moments then_told then_cells (slice_set o.states j t)
           → SitsOrIsOver digest h z t → OnServer digest h v b then_told then_cells (slice_set seats j z)
-      with_seat b then_told then_cells z t stand is = record { states = slice_set o.states j t; stand = stand; sit = both_set (SitsOrIsOver digest h) seats o.states o.sit j z t is }
+      with_seat b start then_told then_cells z t stand is = record { start = start; states = slice_set o.states j t; stand = stand; sit = both_set (SitsOrIsOver digest h) seats o.states o.sit j z t is }
 
       -- it takes up these lines
       pub alone_goes : (z : Seat H) (taken : List InputLine) (later : List ℕ) (st : Steps digest h v s taken z) → Each (InPhase a.phase) (map did (alones_acts st.steps))
           → OnServer digest h v (with_lines taken later a) told cells (slice_set seats j z)
-      alone_goes z taken later st phased = with_seat (with_lines taken later a) told cells z st.t
-          (subst₂ (λ (ls : List InputLine) (ks : List SessionOutput). SessionsStand v a.database a.size a.phase ls (a.moments ++ later) ks cells (slice_set o.states j st.t))
+      alone_goes z taken later st phased = with_seat (with_lines taken later a) o.start told cells z st.t
+          (subst₂ (λ (ls : List InputLine) (ks : List SessionOutput). SessionsStandBehind o.start a.phase ls (a.moments ++ later) ks cells (slice_set o.states j st.t))
           (ap (λ (ls : List InputLine). a.lines ++ ls) st.lines) (told_set told j k is_told)
           (alone_on o.stand j s its.there k is_told others_inactive st.t st.steps phased (plain_nameless (alones_acts st.steps) st.plain) [] [] [] later (adds_gains st.adds) tt))
           (inl st.sits)
 
       -- it goes on alone, and takes up none
       pub quiet_goes : (z : Seat H) (st : Steps digest h v s [] z) → OnServer digest h v a told cells (slice_set seats j z)
-      quiet_goes z st = with_seat a told cells z st.t
-          (subst₂ (λ (ls : List InputLine) (ks : List SessionOutput). SessionsStand v a.database a.size a.phase ls a.moments ks cells (slice_set o.states j st.t))
+      quiet_goes z st = with_seat a o.start told cells z st.t
+          (subst₂ (λ (ls : List InputLine) (ks : List SessionOutput). SessionsStandBehind o.start a.phase ls a.moments ks cells (slice_set o.states j st.t))
           (ap (λ (ls : List InputLine). a.lines ++ ls) st.lines ∙ append-nil a.lines) (told_set told j k is_told)
-          (subst (λ (ms : List ℕ). SessionsStand v a.database a.size a.phase (a.lines ++ alones_lines st.steps) ms (slice_set told j (told_with k [] [])) cells (slice_set o.states j st.t)) (append-nil a.moments)
+          (subst (λ (ms : List ℕ). SessionsStandBehind o.start a.phase (a.lines ++ alones_lines st.steps) ms (slice_set told j (told_with k [] [])) cells (slice_set o.states j st.t)) (append-nil a.moments)
           (alone_on o.stand j s its.there k is_told others_inactive st.t st.steps (plain_phased a.phase st.steps st.lines st.plain) (plain_nameless (alones_acts st.steps) st.plain) [] [] [] [] (adds_gains st.adds) tt)))
           (inl st.sits)
 
       -- it answers
       pub answer_goes : (z : Seat H) → Answers digest h v s y z → OnServer digest h v a (slice_set told j (told_with k (entries_at y) [])) cells (slice_set seats j z)
-      answer_goes z an = with_seat a (slice_set told j (told_with k (entries_at y) [])) cells z an.t
-          (subst₂ (λ (ls : List InputLine) (ms : List ℕ). SessionsStand v a.database a.size a.phase ls ms (slice_set told j (told_with k (entries_at y) [])) cells (slice_set o.states j an.t))
+      answer_goes z an = with_seat a o.start (slice_set told j (told_with k (entries_at y) [])) cells z an.t
+          (subst₂ (λ (ls : List InputLine) (ms : List ℕ). SessionsStandBehind o.start a.phase ls ms (slice_set told j (told_with k (entries_at y) [])) cells (slice_set o.states j an.t))
           (ap (λ (ls : List InputLine). a.lines ++ ls) an.lines ∙ append-nil a.lines) (append-nil a.moments)
           (alone_on o.stand j s its.there k is_told others_inactive an.t steps (plain_phased a.phase steps an.lines an.plain) (plain_nameless (alone_acts an.step) an.plain) (entries_at y) [] [] [] (adds_gains an.adds) tt))
           (inl an.sits)
@@ -205,8 +212,8 @@ module _ {H : Type 0} (digest : H → List ℕ → List ℕ) (h : H) {v : Server
 
       -- its session is over
       pub over_goes : (z : Seat H) → IsOver z → (e : Ends v s y) → a.phase ≡ ending → OnServer digest h v a (slice_set told j (told_with k (last_entries (end_of y.running)) [])) cells (slice_set seats j z)
-      over_goes z is e at_last = with_seat a (slice_set told j (told_with k (last_entries (end_of y.running)) [])) cells z e.t
-          (subst₂ (λ (ls : List InputLine) (ms : List ℕ). SessionsStand v a.database a.size a.phase ls ms (slice_set told j (told_with k (last_entries (end_of y.running)) [])) cells (slice_set o.states j e.t))
+      over_goes z is e at_last = with_seat a o.start (slice_set told j (told_with k (last_entries (end_of y.running)) [])) cells z e.t
+          (subst₂ (λ (ls : List InputLine) (ms : List ℕ). SessionsStandBehind o.start a.phase ls ms (slice_set told j (told_with k (last_entries (end_of y.running)) [])) cells (slice_set o.states j e.t))
           (ap (λ (ls : List InputLine). a.lines ++ ls) e.lines ∙ append-nil a.lines) (append-nil a.moments)
           (over_now o.stand j s its.there k is_told others_inactive e.t steps (subst (λ (p : Phase). Each (InPhase p) (map did (alones_acts steps))) (sym at_last) (all_silent steps e.lines)) (alone_nameless e.x e.before e.step)
           (last_entries (end_of y.running)) [] (record {
@@ -234,13 +241,13 @@ module _ {H : Type 0} (digest : H → List ℕ → List ℕ) (h : H) {v : Server
           v = v;
           serves = serves;
           cells = cells;
-          seats = o.stand.parent ∷ o.states;
+          seats = o.start.begins.seat ∷ o.stand.parent ∷ o.states;
           together = together;
           i = i;
           needs = needs;
           here = here;
           keeps = keeps;
-          j = suc j;
+          j = suc (suc j);
           s = s;
           there = its.there;
           sits = w;
@@ -266,9 +273,9 @@ module _ {H : Type 0} (digest : H → List ℕ → List ℕ) (h : H) {v : Server
 
           pub visit_goes : In y.started a.moments → OnServer digest h v a told (slice_set cells i d.cell) (slice_set seats j z)
           unfolding among
-          visit_goes time = with_seat a told (slice_set cells i d.cell) z g.t
+          visit_goes time = with_seat a o.start told (slice_set cells i d.cell) z g.t
               (stand_in a.moments (no_more y.started a.moments g.moments time g.at_start)
-              (subst₂ (λ (ls : List InputLine) (ks : List SessionOutput). SessionsStand v a.database a.size a.phase ls (a.moments ++ g.moments) ks (slice_set cells i d.cell) (slice_set o.states j g.t))
+              (subst₂ (λ (ls : List InputLine) (ks : List SessionOutput). SessionsStandBehind o.start a.phase ls (a.moments ++ g.moments) ks (slice_set cells i d.cell) (slice_set o.states j g.t))
               (ap (λ (ls : List InputLine). a.lines ++ ls) (g.lines []) ∙ append-nil a.lines) (told_set told j k is_told)
               (visit_waiting o.stand j s its.there k is_told others_inactive ((i, c.cell) ∷ []) (here, tt) i d.cell g.t (g.may []) (visit_phased a.phase (g.may []) (g.lines []) its_fit (g.did [])) (nameless its_fit (g.did []))
               waits [] [] g.moments g.moments (adds_gains g.adds) (each_in g.moments))))
@@ -313,8 +320,8 @@ module _ {H : Type 0} (digest : H → List ℕ → List ℕ) (h : H) {v : Server
   but_first zero u ne e = absurd (ne refl)
   but_first (suc k) u ne e = let b = behind (SitsOrIsOver digest h) seats o.states o.sit k u e in quiet_state digest h b.x u b.is (inactive k b.x b.there)
 
-  with_cells : (then_cells : List Cell) → SessionsStand v a.database a.size a.phase a.lines a.moments told then_cells o.states → OnServer digest h v a told then_cells seats
-  with_cells then_cells stand = record { states = o.states; stand = stand; sit = o.sit }
+  with_cells : (then_cells : List Cell) → SessionsStandBehind o.start a.phase a.lines a.moments told then_cells o.states → OnServer digest h v a told then_cells seats
+  with_cells then_cells stand = record { start = o.start; states = o.states; stand = stand; sit = o.sit }
 
   pub close_goes : pending_at cells ≤ a.size → (d : Cell) → ClosesOne (digest h) l d → OnServer digest h v a told (slice_set cells ledger_at d) seats
   close_goes most d closes = ⊎_elim
@@ -323,7 +330,7 @@ module _ {H : Type 0} (digest : H → List ℕ → List ℕ) (h : H) {v : Server
       subst (λ (e : Cell). OnServer digest h v a told (slice_set cells ledger_at e) seats) (sym f.1)
       (with_cells (slice_set cells ledger_at (Ledger (closed_by (digest h) l.block_size l)))
       (cells_on o.stand (close_more o.stand.sequential_run 0 o.stand.parent refl but_first l o.stand.sequential_run.there full l.block_size (closed_by (digest h) l.block_size l) (record {
-        some = (let n : 1 ≤ a.size = o.stand.sequential_run.some_size in omega (arith, n, full));
+        some = (let n : 1 ≤ a.size = some_size o.stand.sequential_run in omega (arith, n, full));
         all = sym (next_full l f.0);
         cell = ap (λ (g : List ℕ → List ℕ). closed_by g l.block_size l) (sym serves.hash);
       })))))

@@ -8,9 +8,12 @@ use Rattle.spec_history.specs.Lists.{Text, In}
 use Rattle.spec_protocol.specs.Cells.{Cell}
 use Rattle.spec_protocol.specs.Seats.{OpenTransaction, SeatState}
 use Rattle.spec_protocol.specs.Server.{Server}
+use Rattle.law_behind.specs.Past.{Past}
 use Rattle.law_sequential.specs.EndsLast.{Phase, running, ending}
-use Rattle.law_sequential.specs.Sessions.{SessionOutput, SessionsStand}
-use Rattle.law_sequential.proofs.SessionsStand.{sessions_may_end}
+use Rattle.law_sequential.specs.RunStart.{RunStart}
+use Rattle.law_sequential.specs.Sessions.{SessionOutput}
+use Rattle.law_sequential.specs.SessionsBehind.{SessionsStandBehind}
+use Rattle.law_sequential.proofs.SessionsStandBehind.{sessions_may_end}
 use Rattle.server_session.specs.KeptCell.{KeptCell}
 use Rattle.server_session.specs.Needs.{need_of, point_need, cell_or_done, back_need}
 use Rattle.server_session.specs.ControlPoints.{IsAnswering, IsAnsweringAt, IsBegun, IsBegunAt, IsBetween, IsBetweenAt, IsInside, IsInsideAt, IsLeaving, IsLeavingAt, IsOver, IsOverAt, IsUnderWay, IsUnderWayAt, KeepsStatement, IsSamePhase}
@@ -213,8 +216,8 @@ module _ {H : Type 0} (digest : H → List ℕ → List ℕ) (h : H) (a : CoreIn
 
 -- ---- sessions end
 
-pub stand_at_end : {v : Server} {database : Text} {size : ℕ} (p : Phase) {lines : List InputLine} {moments : List ℕ} {told : List SessionOutput} {cells : List Cell} {states : List SeatState}
-    → SessionsStand v database size p lines moments told cells states → SessionsStand v database size ending lines moments told cells states
+pub stand_at_end : {v : Server} {database : Text} {size : ℕ} {past : Past} {start : RunStart v database size past} (p : Phase) {lines : List InputLine} {moments : List ℕ} {told : List SessionOutput} {cells : List Cell} {states : List SeatState}
+    → SessionsStandBehind start p lines moments told cells states → SessionsStandBehind start ending lines moments told cells states
 stand_at_end running c = sessions_may_end c
 stand_at_end ending c = c
 
@@ -225,7 +228,7 @@ holds_at_end digest h cells sessions a o = record {
   shown = o.shown;
   keep = o.keep;
   timed = o.timed;
-  served = λ v serves. let w = o.served v serves in record { states = w.states; stand = stand_at_end a.phase w.stand; sit = w.sit };
+  served = λ v serves. let w = o.served v serves in record { start = w.start; states = w.states; stand = stand_at_end a.phase w.stand; sit = w.sit };
 }
 
 module _ {H : Type 0} (digest : H → List ℕ → List ℕ) (h : H) (a : CoreInput) (j : ℕ) (c : Core H) (m : Stands digest h c a) (y : Session H) (there : get_elem? c.sessions.items j ≡ some y) (b : IsBetween y.seat) where

@@ -11,16 +11,20 @@ use Rattle.spec_protocol.specs.Cells.{Cell}
 use Rattle.spec_protocol.specs.Follows.{may_lines, names_begun}
 use Rattle.spec_protocol.specs.Seats.{KeptImage, Session, session, SeatState}
 use Rattle.spec_protocol.specs.Server.{Server}
+use Rattle.law_behind.specs.Past.{Past}
 use Rattle.law_sequential.specs.EndsLast.{Phase, InPhase}
 use Rattle.law_sequential.specs.InStep.{Waits}
-use Rattle.law_sequential.specs.SequentialRun.{SequentialRun}
-use Rattle.law_sequential.specs.Sessions.{SessionOutput, names_told, told_with, Gains, IsOver, IsShown, OthersInactive, Runs, SessionsStand}
-use Rattle.law_sequential.proofs.Goes.{visit_more}
+use Rattle.law_sequential.specs.RunBehind.{SequentialRunBehind}
+use Rattle.law_sequential.specs.RunStart.{RunStart}
+use Rattle.law_sequential.specs.Sessions.{SessionOutput, names_told, told_with, Gains, IsOver, IsShown, OthersInactive, Runs}
+use Rattle.law_sequential.specs.SessionsBehind.{SessionsStandBehind}
+use Rattle.law_sequential.proofs.GoesBehind.{visit_more}
 use Rattle.law_sequential.proofs.SeatOn.{runs_on}
-use Rattle.law_sequential.proofs.SessionsStand.{ShownAt, shown_at, one_seat_on, inactive_except}
+use Rattle.law_sequential.proofs.SessionsStand.{ShownAt, shown_at, inactive_except}
+use Rattle.law_sequential.proofs.SessionsStandBehind.{one_seat_on}
 use Rattle.server_engine.proofs.AnonymousActs.{not_idle}
 
-module _ {v : Server} {database : Text} {size : ℕ} {phase : Phase} {lines : List InputLine} {moments : List ℕ} {told : List SessionOutput} {cells : List Cell} {states : List SeatState} (c : SessionsStand v database size phase lines moments told cells states)
+module _ {v : Server} {database : Text} {size : ℕ} {past : Past} {start : RunStart v database size past} {phase : Phase} {lines : List InputLine} {moments : List ℕ} {told : List SessionOutput} {cells : List Cell} {states : List SeatState} (c : SessionsStandBehind start phase lines moments told cells states)
     (j : ℕ) (s : SeatState) (there : get_elem? states j ≡ some s) (k : SessionOutput) (is_told : get_elem? told j ≡ some k) (others : OthersInactive states j) where
   its : ShownAt moments told j s
   its = shown_at moments told states c.shown j s there
@@ -35,8 +39,8 @@ module _ {v : Server} {database : Text} {size : ℕ} {phase : Phase} {lines : Li
   pub visit_waiting : (out : List (ℕ × Cell)) → OutsAreIn cells out → (i : ℕ) (d : Cell) (t : SeatState) (m : AllowedVisit v s out i d t) → Each (InPhase phase) (may_anonymous_acts m) → names_begun (may_anonymous_acts m) ≡ []
       → Waits size c.sequential_run.ledger m.visit
       → (entries : List Entry) (images : List KeptImage) (times later : List ℕ) → Gains s entries images times t → Each (λ time. In time later) times
-      → SessionsStand v database size phase (lines ++ may_lines m) (moments ++ later) (slice_set told j (told_with k entries images)) (slice_set cells i d) (slice_set states j t)
+      → SessionsStandBehind start phase (lines ++ may_lines m) (moments ++ later) (slice_set told j (told_with k entries images)) (slice_set cells i d) (slice_set states j t)
   visit_waiting out outs i d t m phased nameless waits entries images times later g at = one_seat_on c later j s t (told_with k entries images) k there is_told refl
-      (subst (λ (ns : List Text). SequentialRun v database size phase ns (lines ++ may_lines m) (slice_set cells i d) (slice_set (c.parent ∷ states) (suc j) t)) (named (may_anonymous_acts m) nameless)
+      (subst (λ (ns : List Text). SequentialRunBehind start phase ns (lines ++ may_lines m) (slice_set cells i d) (slice_set (c.parent ∷ states) (suc j) t)) (named (may_anonymous_acts m) nameless)
       (visit_more c.sequential_run (suc j) s there (inactive_except c.parent states j c.rests others) out outs i d t m phased waits))
       (runs_on moments later k s t entries images times (runs_there g.x g.before) g at)

@@ -2,12 +2,15 @@
 use Rattle.std.specs.Prelude.{ℕ, ◌++◌, List, [], ◌∷◌}
 use Rattle.spec_history.specs.Inputs.{InputLine}
 use Rattle.spec_history.specs.Lists.{Text}
+use Rattle.law_behind.specs.Past.{Past, no_past}
 use Rattle.law_sequential.specs.EndsLast.{Phase, running, ending}
 
 pub record CoreInput : Type 0 where
   pub database : Text
   -- the most entries of a block
   pub size : ℕ
+  -- what came before
+  pub past : Past
   -- whether sessions may end, and no statement is taken up any more
   pub phase : Phase
   -- of the sessions that began, in this order
@@ -17,21 +20,26 @@ pub record CoreInput : Type 0 where
   -- and the moments at which they were
   pub moments : List ℕ
 
-abbrev pub nothing_asked : Text → ℕ → CoreInput
-nothing_asked database size = record {
+abbrev pub nothing_asked_behind : Past → Text → ℕ → CoreInput
+nothing_asked_behind past database size = record {
   database = database;
   size = size;
+  past = past;
   phase = running;
   names = [];
   lines = [];
   moments = [];
 }
 
+abbrev pub nothing_asked : Text → ℕ → CoreInput
+nothing_asked database size = nothing_asked_behind no_past database size
+
 -- a session of this name begins
 abbrev pub with_session : Text → CoreInput → CoreInput
 with_session name a = record {
   database = a.database;
   size = a.size;
+  past = a.past;
   phase = a.phase;
   names = a.names ++ name ∷ [];
   lines = a.lines;
@@ -43,6 +51,7 @@ abbrev pub with_lines : List InputLine → List ℕ → CoreInput → CoreInput
 with_lines lines moments a = record {
   database = a.database;
   size = a.size;
+  past = a.past;
   phase = a.phase;
   names = a.names;
   lines = a.lines ++ lines;
@@ -58,6 +67,7 @@ abbrev pub at_end : CoreInput → CoreInput
 at_end a = record {
   database = a.database;
   size = a.size;
+  past = a.past;
   phase = ending;
   names = a.names;
   lines = a.lines;

@@ -3,7 +3,9 @@ pub mod FirstCells
 pub mod IsMidway
 pub mod Parts
 pub mod Standing
+pub mod Starts
 pub mod Written
+pub use Rattle.law_sequential.specs.OutcomeBehind
 pub use Rattle.law_sequential.specs.SessionOutput
 pub use Rattle.law_sequential.specs.Wrote
 pub use Rattle.law_sequential.specs.EndsLast

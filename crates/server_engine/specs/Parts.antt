@@ -8,7 +8,7 @@ use Rattle.server_visits.specs.Room.{FitsImageFormat}
 use Rattle.spec_syntax.specs.Text.{statement_of}
 use Rattle.spec_protocol.specs.Server.{Server}
 use Rattle.spec_protocol.specs.Serves.{Serves}
-use Rattle.law_sequential.specs.SessionOutput.{HasEnded}
+use Rattle.law_sequential.specs.OutcomeBehind.{HasEndedBehind}
 use Rattle.server_engine.specs.CoreInput.{CoreInput}
 use Rattle.server_engine.specs.Standing.{entry_texts, Stands, IsEnded}
 use Rattle.server_engine.specs.declared.one_thread.Core.{Core}
@@ -23,7 +23,7 @@ pub record HasLeft {H : Type 0} (h : List ℕ → List ℕ) (a : CoreInput) (p :
   pub version : p.journal.version ≡ JOURNAL_VERSION
   pub database : p.journal.database ≡ a.database
   pub ended : (v : Server) → Serves h statement_of v
-      → HasEnded v a.database a.size a.names a.lines a.moments transcripts
+      → HasEndedBehind v a.database a.size a.past a.names a.lines a.moments transcripts
       (map (λ y. y.images) p.sessions.items) p.journal.items p.digests
   -- the image is that of the journal, which has room in the format
   pub image : p.image ≡ image_bytes (image_of h statement_of a.database p.journal.items)

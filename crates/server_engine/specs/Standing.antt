@@ -12,7 +12,9 @@ use Rattle.spec_protocol.specs.Seats.{idle, SeatState}
 use Rattle.spec_protocol.specs.Server.{Server}
 use Rattle.spec_protocol.specs.Serves.{Serves}
 use Rattle.law_sequential.specs.EndsLast.{running}
-use Rattle.law_sequential.specs.Sessions.{SessionOutput, names_told, SessionsStand}
+use Rattle.law_sequential.specs.RunStart.{RunStart}
+use Rattle.law_sequential.specs.Sessions.{SessionOutput, names_told}
+use Rattle.law_sequential.specs.SessionsBehind.{SessionsStandBehind}
 use Rattle.format_transcript.specs.TranscriptText.{entry_text}
 use Rattle.server_session.specs.KeptCell.{KeptCell, Keeps}
 pub use Rattle.server_session.specs.ControlPoints.{IsBetween, IsOver}
@@ -86,11 +88,12 @@ IsTimed moments y = IsOver y ⊎ ((y.running ≡ None) ⊎ In y.started moments)
 
 -- ---- all
 
--- sessions that have shown this stand on this server, as the run-time seats say
+-- since a start of this server sessions that have shown this stand on it, as the run-time seats say
 pub record OnServer {H : Type 0} (digest : H → List ℕ → List ℕ) (h : H) (v : Server) (a : CoreInput)
     (told : List SessionOutput) (cells : List Cell) (seats : List (Seat H)) : Type 0 where
+  pub start : RunStart v a.database a.size a.past
   pub states : List SeatState
-  pub stand : SessionsStand v a.database a.size a.phase a.lines a.moments told cells states
+  pub stand : SessionsStandBehind start a.phase a.lines a.moments told cells states
   pub sit : Pairwise (SitsOrIsOver digest h) seats states
 
 -- so it is on each server that reads and hashes as this core does

@@ -6,13 +6,16 @@ mod cells;
 mod one_thread;
 mod parts;
 mod session;
+mod starts;
 mod visits;
 
 pub use cells::first_cells;
 pub use law_sequential::{
-    ended_sequential_runs_agree, journals_of_sequential_runs_are_legal, times_are_those_of_sessions,
+    ended_runs_behind_a_past_agree, journals_of_runs_behind_a_past_are_legal,
+    runs_behind_no_past_agree, times_behind_a_past_are_those_of_sessions,
 };
 pub use one_thread::Core;
 pub use parts::Parts;
 pub use server_visits::{Cell, image_bytes_of, visit, visit_all};
 pub use session::{Session, SessionEnd, new_session};
+pub use starts::runs_start;

@@ -6,15 +6,18 @@ ghost use lib.ListN.{get_elem?};
 ghost use Rattle.base_types.specs.Moment.{is_moment};
 ghost use Rattle.base_types.specs.SessionName.{is_session_name};
 ghost use Rattle.sql_types.specs.declared.journal.TheConstants.{MAX_BLOCK};
+ghost use Rattle.law_behind.specs.Past.{Past};
 ghost use Rattle.law_sequential.specs.EndsLast.{running, ending};
-ghost use Rattle.server_engine.specs.CoreInput.{CoreInput, nothing_asked, with_session, with_line, at_end};
+ghost use Rattle.server_engine.specs.CoreInput.{CoreInput, nothing_asked, nothing_asked_behind, with_session, with_line, at_end};
 ghost use Rattle.server_engine.specs.IsMidway.{ChangesSession, GoesOn, IsAtSessionEnd, IsBetweenThen, IsOverThen, IsReady, IsRoomy, IsUnchanged, MayAnswer, MayLeave, MayStart, TookUp};
 ghost use Rattle.server_engine.specs.Parts.{HasLeft, IsDone};
 ghost use Rattle.server_engine.specs.Standing.{IsEnded, IsOpen, IsSame, IsStanding, MayTakeStatement, OthersStay, Stands};
+ghost use Rattle.server_engine.specs.Starts.{StartsBehind};
 
 use crate::cells::first_cells;
 use crate::parts::{Parts, write_last_lines};
 use crate::session::{Session, new_session};
+use crate::starts::runs_start;
 use crate::visits::LEDGER;
 use base_merkle::Hash32;
 use base_types::{Memory, Name, Text};
@@ -38,12 +41,23 @@ impl<H: Hash32> Core<H> {
         ensures { IfOk result (λ core. Stands H.digest hasher core (nothing_asked database block_size)) }
     {
         let cells = first_cells(alloc, database, block_size)?;
+        // A law: it does nothing.
+        runs_start();
+        Ok(Core::over(alloc, hasher, cells))
+    }
+
+    /// The core over cells with which a run starts, behind the past from which it goes on; no session has begun.
+    pub fn over(alloc: Global, hasher: H, cells: Vec<Cell>) -> Core<H>
+        ensures { (database : List ℕ) (size : ℕ) (past : Past)
+            → StartsBehind (H.digest hasher) database size past cells.items
+            → Stands H.digest hasher result (nothing_asked_behind past database size) }
+    {
         let sessions = Vec::new(alloc);
-        Ok(Core {
+        Core {
             hasher,
             cells,
             sessions,
-        })
+        }
     }
 
     /// A session begins. Its number is that of the sessions before it. For want of memory nothing changes.

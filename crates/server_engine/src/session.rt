@@ -25,6 +25,9 @@ use sql_types::Reply;
 use std::alloc::Global;
 use std::mem;
 
+// So many bytes the lines behind a statement mostly take, of a count of rows and of a commit.
+const LINES_ROOM: usize = 48;
+
 /// A session with what it has shown.
 #[derive(Drop)]
 pub struct Session<H: Hash32> {
@@ -135,7 +138,7 @@ impl<H: Hash32> Session<H> {
         if let Some(end) = self.last {
             let name = self.seat.name().as_str();
             let mut entry = String::new(alloc);
-            push_end(alloc, name, end, &mut entry)?;
+            push_end(name, end, &mut entry)?;
             self.entries.push(Text::from_string(entry))?;
             self.last = None;
         }
@@ -212,8 +215,13 @@ fn statement_text(alloc: Global, name: &str, answer: Answer<'_>) -> Result<Text,
         (statement answer.entry.text.now answer.entry.reply.now (line_seen answer.entry.end))) }
 {
     let Answer { text, reply, end } = answer;
-    let mut entry = String::new(alloc);
-    push_statement(alloc, name, text.as_str(), reply, end, &mut entry)?;
+    let text = text.as_str();
+    let room = name
+        .len()
+        .saturating_add(text.len())
+        .saturating_add(LINES_ROOM);
+    let mut entry = String::with_capacity(alloc, room)?;
+    push_statement(alloc, name, text, reply, end, &mut entry)?;
     Ok(Text::from_string(entry))
 }
 

@@ -1,38 +1,40 @@
--- The cells of a database at its beginning stand together with its first seat.
-use Rattle.std.proofs.Common.{◌≡◌, ◌≤◌, ℕ, List, [], ◌∷◌, length, refl, sym, subst}
-use mathlib.Core.Option.{some}
+-- The cells with which a run starts stand together with the first seat, and no session runs there.
+use Rattle.std.proofs.Common.{◌≡◌, ℕ, List, [], ◌∷◌, length, refl, sym, ap, ◌∙◌, subst}
+use Rattle.std.proofs.lemmas.List.{length-map}
+use mathlib.Core.Option.{some, some-ne-none}
 use lib.ListN.{get_elem?}
-use Rattle.server_thread.specs.FirstCells.{first_kept}
-use Rattle.server_ending.specs.Standing.{cells_seen}
-use Rattle.server_thread.proofs.FirstCells.{first_keep, first_same}
-use Rattle.spec_history.specs.Lists.{Text}
-use Rattle.spec_model.specs.Limits.{max_block}
-use Rattle.server_session.specs.KeptCell.{KeptCell, Keeps}
-use Rattle.spec_protocol.specs.Cells.{Cell, Ledger, LedgerCell, cell_count, first_cells, first_ledger, ledger_at}
+use Rattle.spec_syntax.specs.Text.{statement_of}
 use Rattle.spec_protocol.specs.AllowedVisit.{first_seat}
-use Rattle.spec_protocol.specs.StandTogether.{Stands, StandTogether}
-use Rattle.server_thread.proofs.Beginning.{begins, none_asked, none_requested}
-use Rattle.server_thread.specs.Laws.{one_ledger}
-use Rattle.server_thread.specs.ServedDatabase.{IsOf, ServedDatabase, StandsOn}
+use Rattle.spec_protocol.specs.Cells.{Catalog, Cell, Ledger, LedgerCell, Rows, cell_count, ledger_at}
+use Rattle.spec_protocol.specs.Seats.{SeatState, idle_seat}
+use Rattle.spec_protocol.specs.Serves.{Serves}
+use Rattle.server_session.specs.KeptCell.{KeptCell, Keeps}
+use Rattle.server_ending.specs.Standing.{cells_seen}
+use Rattle.server_thread.specs.Seated.{IsIdle}
+use Rattle.server_thread.specs.ServedDatabase.{ServedDatabase, StandsOn}
+use Rattle.server_thread.specs.Starts.{StartsBehind}
+use Rattle.server_thread.proofs.Begins as board
 
-module _ (d : ServedDatabase) (database : Text) (size : ℕ) (some_size : 1 ≤ size) (most_size : size ≤ max_block) where
-  stands : Stands d.server [] (first_cells database size) (first_seat (first_cells database size) ∷ [])
-  stands = begins database size d.server some_size most_size
+-- the first seat, where the ledger's cell lies at its place
+first_is : (cells : List Cell) (l : LedgerCell) → get_elem? cells ledger_at ≡ some (Ledger l) → (k : LedgerCell) × (first_seat cells ≡ idle_seat k.database k.block_size 0 [])
+first_is (c ∷ Ledger k ∷ cells) l e = (k, refl)
+first_is (c ∷ Catalog k ∷ cells) l e = let f : some (Catalog k) ≡ some (Ledger l) = e in cc
+first_is (c ∷ Rows k ∷ cells) l e = let f : some (Rows k) ≡ some (Ledger l) = e in cc
+first_is (c ∷ []) l e = absurd (some-ne-none (Ledger l) (sym e))
+first_is [] l e = absurd (some-ne-none (Ledger l) (sym e))
 
-  together : StandTogether d.server (first_cells database size) (first_seat (first_cells database size) ∷ [])
-  together = record { history = []; stands = stands; locks_were_asked = none_asked database size d.server stands; locks_are_requested = none_requested database size d.server }
+module _ (h : List ℕ → List ℕ) (d : ServedDatabase) (cells : List KeptCell) (serves : Serves h statement_of d.server) (starts : StartsBehind h d.database d.size d.past cells) where
+  pub first_stand : StandsOn (λ (k : KeptCell). k.cell) Keeps d cells (first_seat (cells_seen cells) ∷ [])
+  first_stand = board.first_stand (λ (k : KeptCell). k.cell) Keeps h statement_of d cells serves starts
 
-  is_of : d.database ≡ database → d.size ≡ size → (l : LedgerCell) → get_elem? (first_cells database size) ledger_at ≡ some (Ledger l) → IsOf d l
-  is_of same_database same_size l there = subst (IsOf d) (one_ledger (first_cells database size) (first_ledger database size) l refl there)
-      (record { database = sym same_database; block_size = sym same_size })
+  pub first_count : length cells ≡ cell_count
+  first_count = sym (length-map cells (λ (k : KeptCell). k.cell)) ∙ first_stand.together.stands.are_cells.count
 
-  pub first_stand : d.database ≡ database → d.size ≡ size
-      → StandsOn (λ (k : KeptCell). k.cell) Keeps d (first_kept database size) (first_seat (cells_seen (first_kept database size)) ∷ [])
-  first_stand same_database same_size = record {
-    kept = first_keep d.server.hash database size;
-    together = subst (λ (cs : List Cell). StandTogether d.server cs (first_seat cs ∷ [])) (sym (first_same database size)) together;
-    of = subst (λ (cs : List Cell). (l : LedgerCell) → get_elem? cs ledger_at ≡ some (Ledger l) → IsOf d l) (sym (first_same database size)) (is_of same_database same_size);
-  }
+  first_idle : (k : LedgerCell) × (first_seat (cells_seen cells) ≡ idle_seat k.database k.block_size 0 [])
+  first_idle = let st = first_stand.together.stands in first_is (cells_seen cells) st.ledger st.are_cells.has_ledger
 
-pub first_count : (database : Text) (size : ℕ) → length (first_kept database size) ≡ cell_count
-first_count database size = refl
+  pub idle_first : IsIdle (first_seat (cells_seen cells))
+  idle_first = subst IsIdle (sym first_idle.1) (record { present = refl; role = refl })
+
+  pub none_written : (first_seat (cells_seen cells)).written ≡ []
+  none_written = ap (λ (s : SeatState). s.written) first_idle.1

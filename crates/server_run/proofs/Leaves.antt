@@ -27,7 +27,7 @@ use Rattle.spec_protocol.specs.LedgerIsLegal.{LedgerIsLegal}
 use Rattle.spec_protocol.specs.JournalForms.{journal_in}
 use Rattle.spec_protocol.specs.Reordered.{NamesApart}
 use Rattle.spec_protocol.specs.Seats.{KeptImage, Written}
-use Rattle.spec_protocol.specs.StandTogether.{Stands}
+use Rattle.spec_protocol.specs.StandTogether.{History, Stands}
 use Rattle.spec_protocol.specs.Serves.{Serves}
 use Rattle.server_ending.proofs.SameNames.{names_apart}
 use Rattle.server_ending.specs.SessionOutput.{IsImageOf}
@@ -42,11 +42,13 @@ use Rattle.server_result.specs.Images.{AreKept, with_each}
 use Rattle.server_result.specs.Moments.{IsMoment}
 use Rattle.server_result.specs.declared.ran.RunOutcome.{RunOutcome}
 use Rattle.server_result.proofs.Kept.{are_kept}
+use Rattle.server_result.proofs.LegalTimes.{AnyTime, at_any_time, legal_times, made_at_any_time}
 use Rattle.server_result.proofs.Made.{have_moments, moment_is}
 use Rattle.server_result.proofs.Each.{each_from_all}
-use Rattle.law_concurrent.specs.CameTo as together
 use Rattle.law_concurrent.specs.CameTo.{RunResult, last_image_bytes}
-use Rattle.law_concurrent.specs.Threads.{HasJoined, session_in}
+use Rattle.law_concurrent.specs.CameToBehind.{CameToBehind}
+use Rattle.law_concurrent.specs.JoinedBehind.{HasJoinedBehind}
+use Rattle.law_concurrent.specs.Threads.{session_in}
 use Rattle.spec_verify.specs.declared.place.Verdict.TheVariants.{Yes}
 use Rattle.spec_verify.specs.Bytes.{verdict_of}
 use Rattle.law_concurrent.specs.Held.{held}
@@ -104,14 +106,13 @@ pub record SnapshotLaws : Type 0 where
       → AreAnsweredOver (whole_database (image_of_cut h statement_of j.database j.items m)) name texts entries
       → AreAnsweredOver (serial statement_of (cut j.items m)) name texts entries
 
-module _ (h : List ℕ → List ℕ) (sized : (bytes : List ℕ) → length (h bytes) ≡ 32) (database : Text) (size : ℕ) (says : ℕ → Type 0) (all_sections : RunSections)
-    (d : ServedDatabase) (serves : Serves h statement_of d.server) (of_database : d.database ≡ database) (of_size : d.size ≡ size)
-    (f : FinishedRun) (fin : HasFinished d says (texts_in all_sections.setup.items) all_sections.sessions.items f) where
+module _ (h : List ℕ → List ℕ) (sized : (bytes : List ℕ) → length (h bytes) ≡ 32) (says : ℕ → Type 0) (all_sections : RunSections)
+    (d : ServedDatabase) (serves : Serves h statement_of d.server) (f : FinishedRun) (fin : HasFinished d says (texts_in all_sections.setup.items) all_sections.sessions.items f) where
   abbrev cells : List Cell
   cells = map (λ c. c.cell) f.cells.items
 
   pub cells_stand : CellsStand f.cells.items
-  cells_stand = record { hash = h; sized = sized; v = d.server; serves = serves; seats = fin.seats; together = fin.stands.together }
+  cells_stand = record { hash = h; sized = sized; v = d.server; serves = serves; seats = fin.stands.start.begins.seat ∷ fin.seats; together = fin.stands.together }
 
   abbrev all : List Written
   all = fin.first ∷ fin.rest
@@ -119,8 +120,12 @@ module _ (h : List ℕ → List ℕ) (sized : (bytes : List ℕ) → length (h b
   abbrev pub left_of : RunOutcome → RunResult
   left_of r = record { X = transcripts_in all; kept = map (λ w. w.images) all; J = r.journal; G = r.digests }
 
+  -- what it comes to behind its past
+  abbrev pub Came : RunOutcome → Type 0
+  Came r = CameToBehind h d.database d.size d.past (IsMoment says) (input_of (run_sections_view all_sections)) (left_of r)
+
   module _ (r : RunOutcome) (saved : HasSaved f r) where
-    abbrev st : Stands d.server fin.stands.together.history cells fin.seats
+    abbrev st : Stands d.server fin.stands.together.history cells (fin.stands.start.begins.seat ∷ fin.seats)
     st = fin.stands.together.stands
 
     abbrev l : LedgerCell
@@ -136,25 +141,37 @@ module _ (h : List ℕ → List ℕ) (sized : (bytes : List ℕ) → length (h b
     the_journal = ap₂ (λ (name : Text) (items : List JournalItem). record { version = r.journal.version; database = name; items = items }) saved.database saved.items
         ∙ ap (λ (version : ℕ). record { version = version; database = l.database; items = l.items }) saved.version
 
-    room : FitsImageFormat h statement_of database l.items
+    room : FitsImageFormat h statement_of d.database l.items
     unfolding cells_stand
-    room = subst (λ (name : Text). FitsImageFormat h statement_of name l.items) (of.database ∙ of_database)
+    room = subst (λ (name : Text). FitsImageFormat h statement_of name l.items) of.database
         (subst (λ (k : LedgerCell). FitsImageFormat h statement_of k.database k.items) same_ledger (saved.room cells_stand st.catalog st.ledger st.are_cells))
 
-    pub joined_so : is_database_name database ≡ true → All (λ name. is_session_name name ≡ true) (session_names (run_sections_view all_sections)) → IsDistinct bytes_eq (codes "setup" ∷ session_names (run_sections_view all_sections))
-        → HasJoined h database size (IsMoment says) (input_of (run_sections_view all_sections)) (left_of r)
+    pub joined_so : is_database_name d.database ≡ true → All (λ name. is_session_name name ≡ true) (session_names (run_sections_view all_sections)) → IsDistinct bytes_eq (codes "setup" ∷ session_names (run_sections_view all_sections))
+        → HasJoinedBehind h d.database d.size d.past (IsMoment says) (input_of (run_sections_view all_sections)) (left_of r)
     joined_so named names apart = record {
       v = d.server;
       serves = serves;
+      start = fin.stands.start;
       cells = cells;
       first = fin.first;
       others = fin.rest;
-      joined = record { seats = fin.seats; together = fin.stands.together; j = fin.j; s = fin.s; there = fin.there; rests = fin.rests; wrote = fin.wrote; others = fin.others };
+      joined = record {
+        events = fin.stands.events;
+        seats = fin.seats;
+        stands = subst (λ (hs : History). Stands d.server hs cells (fin.stands.start.begins.seat ∷ fin.seats)) fin.stands.since st;
+        added = fin.stands.added;
+        j = fin.j;
+        s = fin.s;
+        there = fin.there;
+        rests = fin.rests;
+        wrote = fin.wrote;
+        others = fin.others;
+      };
       knew = fin.knew;
       ledger = l;
       there = saved.there;
-      of_database = of.database ∙ of_database;
-      of_size = of.block_size ∙ of_size;
+      of_database = of.database;
+      of_size = of.block_size;
       input_is = ap₂ (λ (x : InputSession) (xs : List InputSession). x ∷ xs) (input_is says setup_name (texts_in all_sections.setup.items) f.setup fin.first fin.setup_is) (inputs_are says all_sections.sessions.items f.ends.items fin.rest fin.are);
       apart = subst NamesApart (sym (names_in all_sections)) (names_apart (codes "setup" ∷ session_names (run_sections_view all_sections)) apart);
       database_is_named = named;
@@ -195,22 +212,22 @@ module _ (h : List ℕ → List ℕ) (sized : (bytes : List ℕ) → length (h b
     images_of_all = saved.images ∙ ap₂ (λ (x : List KeptImage) (xs : List (List KeptImage)). with_each (x ∷ xs)) fin.setup_is.images (images_are says all_sections.sessions.items f.ends.items fin.rest fin.are)
 
     image_is : r.image ≡ last_image_bytes h r.journal
-    image_is = bytes_are_the_journals h d.server serves fin.stands.together.history fin.seats f.cells.items st r.image saved.bytes
+    image_is = bytes_are_the_journals h d.server serves fin.stands.together.history (fin.stands.start.begins.seat ∷ fin.seats) f.cells.items st r.image saved.bytes
         ∙ ap (λ (k : LedgerCell). image_bytes (image_of h statement_of k.database k.items)) same_ledger
         ∙ ap (λ (J : Journal). last_image_bytes h J) (sym the_journal)
 
     abbrev bytes_at : ℕ → Text
-    bytes_at items = image_bytes (image_of_cut h statement_of database r.journal.items items)
+    bytes_at items = image_bytes (image_of_cut h statement_of d.database r.journal.items items)
 
-    each_has : (kept : List (List KeptImage)) → Each (λ ks. Each (IsImageOf h statement_of database r.journal.items) ks) kept → Each (λ ks. Each (λ k. k.1 ≡ bytes_at k.0) ks) kept
-    each_has = each_weaker (λ ks. Each (IsImageOf h statement_of database r.journal.items) ks) (λ ks. Each (λ k. k.1 ≡ bytes_at k.0) ks) (λ ks. each_weaker (IsImageOf h statement_of database r.journal.items) (λ k. k.1 ≡ bytes_at k.0) (λ k is. is.bytes) ks)
+    each_has : (kept : List (List KeptImage)) → Each (λ ks. Each (IsImageOf h statement_of d.database r.journal.items) ks) kept → Each (λ ks. Each (λ k. k.1 ≡ bytes_at k.0) ks) kept
+    each_has = each_weaker (λ ks. Each (IsImageOf h statement_of d.database r.journal.items) ks) (λ ks. Each (λ k. k.1 ≡ bytes_at k.0) ks) (λ ks. each_weaker (IsImageOf h statement_of d.database r.journal.items) (λ k. k.1 ≡ bytes_at k.0) (λ k is. is.bytes) ks)
 
     journal_room : FitsImageFormat h statement_of r.journal.database r.journal.items
     unfolding cells_stand
     journal_room = subst (λ (J : Journal). FitsImageFormat h statement_of J.database J.items) (sym the_journal)
         (subst (λ (k : LedgerCell). FitsImageFormat h statement_of k.database k.items) same_ledger (saved.room cells_stand st.catalog st.ledger st.are_cells))
 
-    answered : SnapshotLaws → (came : together.CameTo h database size (IsMoment says) (input_of (run_sections_view all_sections)) (left_of r))
+    answered : SnapshotLaws → (came : Came r)
         → AllAnswered r.journal (sections_of (run_sections_view all_sections)) (map (λ w. w.images) all) answers
     answered laws came =
         let J = r.journal in
@@ -221,7 +238,7 @@ module _ (h : List ℕ → List ℕ) (sized : (bytes : List ℕ) → length (h b
           all_answered says h J encodable serially all_sections.sessions.items f.ends.items fin.rest fin.are of_all.1,
         )
 
-    pub is_of : SnapshotLaws → together.CameTo h database size (IsMoment says) (input_of (run_sections_view all_sections)) (left_of r) → IsJournal r.journal
+    pub is_of : SnapshotLaws → Came r → IsJournal r.journal
         → IsOf h (run_sections_view all_sections) (left_of r) r
     is_of law came spelled = record {
       answers = answers;
@@ -234,7 +251,7 @@ module _ (h : List ℕ → List ℕ) (sized : (bytes : List ℕ) → length (h b
       journal_is_encodable = spelled;
       has_room = journal_room;
       digests_have_moments = let m = some_meaning h statement_of in
-          have_moments m.0 database r.journal.items says r.digests came.times came.made (came.agree m.0 m.1).digests_are_the_journals.each;
+          have_moments m.0 d.database r.journal.items AnyTime r.digests (legal_times r.journal.items came.legal.items) (made_at_any_time says r.digests came.made) (came.agree m.0 m.1).digests_are_the_journals.each;
     }
 
     -- ---- behind which the ledger is closed
@@ -243,7 +260,7 @@ module _ (h : List ℕ → List ℕ) (sized : (bytes : List ℕ) → length (h b
     legal_cell = subst (LedgerIsLegal d.server) same_ledger st.ledger_is_legal
 
     module _ (laws : Laws) (none : pending_there f.cells.items ≡ 0) (made : ℕ) (said : IsMoment says made) (more : List Digest) (after : LedgerCell) (issued : IssuesLast h made l more after)
-        (came : together.CameTo h database size (IsMoment says) (input_of (run_sections_view all_sections)) (left_of r)) where
+        (came : Came r) where
       none_there : pending_in l ≡ 0
       none_there = sym (ap pending_found saved.there) ∙ none
 
@@ -272,9 +289,9 @@ module _ (h : List ℕ → List ℕ) (sized : (bytes : List ℕ) → length (h b
             journal_is_encodable = base.journal_is_encodable;
             has_room = base.has_room;
             digests_have_moments = subst (λ (G : List Digest). AllByRecursion HasMoments (G ++ more)) (sym saved.digests)
-                (all_have_moments laws h d.server serves l legal_cell none_there made more after issued says said
-                (subst (λ (J : Journal). Each (IsMoment says) (times J.items)) the_journal came.times)
-                (subst (Each (λ g. IsMoment says g.made)) saved.digests came.made));
+                (all_have_moments laws h d.server serves l legal_cell none_there made more after issued AnyTime (at_any_time says made said)
+                (subst (λ (J : Journal). Each (IsMoment AnyTime) (times J.items)) the_journal (legal_times r.journal.items came.legal.items))
+                (subst (Each (λ g. IsMoment AnyTime g.made)) saved.digests (made_at_any_time says r.digests came.made)));
           })
         where
           base : IsOf h (run_sections_view all_sections) (left_of r) r

@@ -24,7 +24,9 @@ use Rattle.server_result.specs.Images.{AreKept}
 use Rattle.server_result.specs.Joined.{joined}
 use Rattle.server_result.specs.Moments.{IsMoment}
 use Rattle.server_result.specs.declared.ran.RunOutcome.{RunOutcome}
+use Rattle.law_behind.specs.Past.{Past}
 use Rattle.law_concurrent.specs.CameTo as together
+use Rattle.law_concurrent.specs.CameToBehind as behind
 use Rattle.law_concurrent.specs.CameTo.{RunResult, last_image_bytes}
 use Rattle.format_transcript.specs.TranscriptText.{transcript_text}
 use Rattle.server_run.specs.FinishedRun.{setup_name}
@@ -41,6 +43,11 @@ input_of all_sections = record { name = setup_name; texts = all_sections.setup }
 -- database whose blocks have at most so many transactions, each statement at a moment that is said.
 abbrev pub CameTo : (List ℕ → List ℕ) → Text → ℕ → (ℕ → Type 0) → RunSections → RunResult → Type 0
 CameTo h database size says all_sections left = together.CameTo h database size (IsMoment says) (input_of all_sections) left
+
+-- so it is of a run that goes on from a journal
+abbrev pub CameToBehind : (List ℕ → List ℕ) → Text → ℕ → Past → (ℕ → Type 0) → RunSections → RunResult → Type 0
+CameToBehind h database size past says all_sections left =
+    behind.CameToBehind h database size past (IsMoment says) (input_of all_sections) left
 
 -- ---- what is answered over snapshots
 

@@ -5,4 +5,4 @@ mod parts;
 mod running;
 mod whole;
 
-pub use running::{run_all, run_and_close};
+pub use running::{run_all, run_all_behind, run_and_close, run_and_close_behind};

@@ -7,8 +7,8 @@ ghost use Rattle.spec_syntax.specs.Text.{statement_of};
 ghost use Rattle.spec_protocol.specs.Serves.{Serves};
 ghost use Rattle.spec_protocol.specs.Seats.{split};
 ghost use Rattle.server_result.specs.Moments.{said_with};
-ghost use Rattle.sql_types.specs.declared.journal.TheConstants.{MAX_BLOCK};
 ghost use Rattle.server_thread.specs.AtBoard.{IsFree, IsFreed, IsGivenBack};
+ghost use Rattle.server_thread.specs.Starts.{StartsBehind};
 ghost use Rattle.server_run.specs.MayRun.{MayRun};
 ghost use Rattle.server_run.specs.FinishedRun.{AreRunnable, HasFinished, setup_name};
 ghost use Rattle.server_thread.specs.Seated.{IsIdle, known_by, texts_in};
@@ -18,12 +18,12 @@ ghost use Rattle.server_run.specs.AllWrote.{HaveWritten};
 use crate::parts::{PartResult, run_part};
 use base_io::{Clock, Gate, OpenGate};
 use base_merkle::Hash32;
-use base_types::{Memory, Name};
+use base_types::Memory;
 use format_sections::{RunSections, Section};
 use server_ending::FinishedRun;
 use server_result::Settings;
 use server_thread::{
-    Cells, Job, Run, Serving, SessionEnd, ThreadSeat, builder_job, first_cells, session_job,
+    Cell, Cells, Job, Run, Serving, SessionEnd, ThreadSeat, builder_job, session_job,
 };
 use std::alloc::Global;
 use std::sync::Wait;
@@ -116,7 +116,7 @@ fn run_beside<'a, K: Serving + Send + Sync, H: Hash32, C: Clock, G: Gate, R: Thr
     Ok((place, ends))
 }
 
-/// Runs the plan over the cells of a database without transactions, as many visits of the builder beside it.
+/// Runs the plan over cells with which a run starts behind a past, as many visits of the builder beside it.
 pub(crate) fn run_over<
     K: Serving + Send + Sync,
     H: Hash32,
@@ -128,24 +128,20 @@ pub(crate) fn run_over<
     alloc: Global,
     hasher: H,
     how: Settings<'_>,
+    cells: Vec<Cell>,
     all_sections: &RunSections<'_>,
     visits: u32,
     clock: &C,
     gate: &G,
 ) -> Result<FinishedRun, Memory>
-    requires some { 1 ≤ how.block_size }
-    requires most { how.block_size ≤ MAX_BLOCK }
-    requires database { K.database.database ≡ how.database.now }
-    requires size { K.database.size ≡ how.block_size }
     requires serves { Serves (H.digest hasher) statement_of K.database.server }
+    requires starts { StartsBehind (H.digest hasher) K.database.database K.database.size K.database.past cells.items }
     requires setup { length all_sections.now.setup.items < 2 ^ 32 }
     requires runnable { AreRunnable all_sections.now.sessions.items }
     requires numbers { length all_sections.now.sessions.items + 2 < 2 ^ 32 }
     ensures { IfOk result (HasFinished K.database (said_with how.entry.clock (C.says clock.now))
         (texts_in all_sections.now.setup.items) all_sections.now.sessions.items) }
 {
-    let database = Name::of_str(alloc, how.database)?;
-    let cells = first_cells(alloc, database, how.block_size)?;
     let (board, mut place) = Cells::<K>::new(alloc, cells, all_sections.sessions.len() as u32 + 2)?;
     let run = Run {
         rt,

@@ -17,7 +17,7 @@ use Rattle.spec_history.specs.Journals as journals
 use Rattle.spec_history.specs.Lists.{Text, Each, In}
 use Rattle.spec_history.specs.Transcripts.{Transcript}
 use Rattle.spec_history.proofs.Trace.{each_weaker}
-use Rattle.format_image.specs.Image.{image_of, image_of_cut}
+use Rattle.format_image.specs.Image.{image_of_cut}
 use Rattle.format_image.specs.ImageBytes.{image_bytes}
 use Rattle.law_image.specs.Room.{FitsImageFormat}
 use Rattle.spec_syntax.specs.Text.{statement_of}
@@ -31,18 +31,20 @@ use Rattle.spec_protocol.specs.Seats.{KeptImage}
 use Rattle.spec_protocol.specs.Server.{Server}
 use Rattle.spec_protocol.specs.Serves.{Serves}
 use Rattle.server_engine.proofs.SameNames.{names_apart}
-use Rattle.server_engine.specs.SessionOutput.{HasEnded, IsImageOf, RunAgrees}
+use Rattle.server_engine.specs.OutcomeBehind.{HasEndedBehind, RunAgreesBehind}
+use Rattle.server_engine.specs.SessionOutput.{IsImageOf}
 use Rattle.server_engine.proofs.SessionOutput.{some_meaning}
-use Rattle.law_kept_images.specs.Accepted.{IsAccepted}
+use Rattle.law_behind.specs.Past.{Past, since}
+use Rattle.law_kept_images.specs.AcceptedBehind.{IsAcceptedBehind}
 use Rattle.server_engine.specs.declared.parts.Parts.{Parts}
-use Rattle.law_kept_images.specs.LastImage.{last_image, last_image_bytes}
+use Rattle.law_kept_images.specs.LastImage.{journal_of, last_image, last_image_bytes}
 use Rattle.law_kept_images.proofs.Accepts.{each_in}
 use Rattle.server_result.specs.Images.{with_each}
 use Rattle.server_result.specs.Moments.{IsMoment}
 use Rattle.server_result.proofs.Kept.{are_kept, each_of_all}
 use Rattle.server_result.proofs.Made.{moment_is}
 use Rattle.server_result.proofs.Each.{each_from_all}
-use Rattle.server_step.specs.Came.{CameTo}
+use Rattle.server_step.specs.CameBehind.{CameToBehind}
 use Rattle.server_step.specs.Lines.{lines_of}
 use Rattle.server_step.specs.Numbers.{number_of, numbers_of}
 use Rattle.server_step.specs.RunOutcome.{HasRun, run_left}
@@ -53,34 +55,34 @@ use Rattle.server_step.proofs.OneList.{are_written}
 
 -- ---- the laws that are used
 
-abbrev pub SequentialRunsAgree : Type 0
-SequentialRunsAgree = (h : List ℕ → List ℕ) (reads : Reading) (database : Text) (size : ℕ) (names : List Text) (lines : List InputLine) (moments : List ℕ) (X : List Transcript) (images : List (List KeptImage)) (J : List JournalItem) (G : List Digest)
-    → map (λ x. x.session) X ≡ names → NamesApart names → ((v : Server) → Serves h reads v → HasEnded v database size names lines moments X images J G)
-    → RunAgrees h reads database size names lines X images J G
+abbrev pub RunsAgree : Type 0
+RunsAgree = (h : List ℕ → List ℕ) (reads : Reading) (database : Text) (size : ℕ) (past : Past) (names : List Text) (lines : List InputLine) (moments : List ℕ) (X : List Transcript) (images : List (List KeptImage)) (J : List JournalItem) (G : List Digest)
+    → map (λ x. x.session) X ≡ names → NamesApart names → ((v : Server) → Serves h reads v → HasEndedBehind v database size past names lines moments X images J G)
+    → RunAgreesBehind h reads database size past names lines X images J G
 
 abbrev pub JournalsAreLegal : Type 0
-JournalsAreLegal = (v : Server) (database : Text) (size : ℕ) (names : List Text) (lines : List InputLine) (moments : List ℕ) (X : List Transcript) (images : List (List KeptImage)) (J : List JournalItem) (G : List Digest)
-    → HasEnded v database size names lines moments X images J G → map (λ x. x.session) X ≡ names → is_database_name database ≡ true
+JournalsAreLegal = (v : Server) (database : Text) (size : ℕ) (past : Past) (names : List Text) (lines : List InputLine) (moments : List ℕ) (X : List Transcript) (images : List (List KeptImage)) (J : List JournalItem) (G : List Digest)
+    → HasEndedBehind v database size past names lines moments X images J G → map (λ x. x.session) X ≡ names → is_database_name database ≡ true
     → Each (λ name. is_session_name name ≡ true) names → Each (λ time. is_moment time ≡ true) moments → IsLegalJournal v.reads (record { version = JOURNAL_VERSION; database = database; items = J })
 
 abbrev pub TimesAreTheirs : Type 0
-TimesAreTheirs = (v : Server) (database : Text) (size : ℕ) (names : List Text) (lines : List InputLine) (moments : List ℕ) (X : List Transcript) (images : List (List KeptImage)) (J : List JournalItem) (G : List Digest)
-    → HasEnded v database size names lines moments X images J G → Each (λ time. In time moments) (journals.times J) × Each (λ d. In d.made moments) G
+TimesAreTheirs = (v : Server) (database : Text) (size : ℕ) (past : Past) (names : List Text) (lines : List InputLine) (moments : List ℕ) (X : List Transcript) (images : List (List KeptImage)) (J : List JournalItem) (G : List Digest)
+    → HasEndedBehind v database size past names lines moments X images J G → Each (λ time. In time moments) (journals.times (since past J)) × Each (λ d. In d.made moments) G
 
 abbrev pub KeptAreAccepted : Type 0
-KeptAreAccepted = (h : List ℕ → List ℕ) (database : Text) (size : ℕ) (names : List Text) (lines : List InputLine) (X : List Transcript) (images : List (List KeptImage)) (J : List JournalItem) (G : List Digest)
-    → RunAgrees h statement_of database size names lines X images J G → IsLegalJournal statement_of (record { version = JOURNAL_VERSION; database = database; items = J }) → FitsImageFormat h statement_of database J
-    → Each (λ kept. Each (IsAccepted h database J G) kept) images
+KeptAreAccepted = (h : List ℕ → List ℕ) (database : Text) (size : ℕ) (past : Past) (names : List Text) (lines : List InputLine) (X : List Transcript) (images : List (List KeptImage)) (J : List JournalItem) (G : List Digest)
+    → RunAgreesBehind h statement_of database size past names lines X images J G → IsLegalJournal statement_of (record { version = JOURNAL_VERSION; database = database; items = J }) → FitsImageFormat h statement_of database J
+    → Each (λ kept. Each (IsAcceptedBehind h database past J G) kept) images
 
 abbrev pub WholeIsAccepted : Type 0
-WholeIsAccepted = (h : List ℕ → List ℕ) (database : Text) (size : ℕ) (names : List Text) (lines : List InputLine) (X : List Transcript) (images : List (List KeptImage)) (J : List JournalItem) (G : List Digest)
-    → RunAgrees h statement_of database size names lines X images J G → IsLegalJournal statement_of (record { version = JOURNAL_VERSION; database = database; items = J }) → FitsImageFormat h statement_of database J
-    → IsAccepted h database J G (length J, image_bytes (image_of h statement_of database J))
+WholeIsAccepted = (h : List ℕ → List ℕ) (database : Text) (size : ℕ) (past : Past) (names : List Text) (lines : List InputLine) (X : List Transcript) (images : List (List KeptImage)) (J : List JournalItem) (G : List Digest)
+    → RunAgreesBehind h statement_of database size past names lines X images J G → IsLegalJournal statement_of (record { version = JOURNAL_VERSION; database = database; items = J }) → FitsImageFormat h statement_of database J
+    → IsAcceptedBehind h database past J G (last_image h (journal_of database J))
 
 abbrev pub AllAreAccepted : Type 0
-AllAreAccepted = (h : List ℕ → List ℕ) (database : Text) (size : ℕ) (names : List Text) (lines : List InputLine) (X : List Transcript) (images : List (List KeptImage)) (J : List JournalItem) (G : List Digest)
-    → RunAgrees h statement_of database size names lines X images J G → IsLegalJournal statement_of (record { version = JOURNAL_VERSION; database = database; items = J }) → FitsImageFormat h statement_of database J
-    → verdict_of h (map held G) (image_bytes (image_of h statement_of database J)) ≡ Yes
+AllAreAccepted = (h : List ℕ → List ℕ) (database : Text) (size : ℕ) (past : Past) (names : List Text) (lines : List InputLine) (X : List Transcript) (images : List (List KeptImage)) (J : List JournalItem) (G : List Digest)
+    → RunAgreesBehind h statement_of database size past names lines X images J G → IsLegalJournal statement_of (record { version = JOURNAL_VERSION; database = database; items = J }) → FitsImageFormat h statement_of database J
+    → verdict_of h (map held G) (last_image_bytes h (journal_of database J)) ≡ Yes
 
 abbrev pub IsServed : Type 0
 IsServed = (h : List ℕ → List ℕ) (reads : Reading) → (v : Server) × Serves h reads v
@@ -103,8 +105,8 @@ named_lines names (s ∷ ss) e = (e.0, named_lines names ss e.1)
 
 -- ---- all
 
-module _ {H : Type 0} (agree : SequentialRunsAgree) (legal : JournalsAreLegal) (theirs : TimesAreTheirs) (kept : KeptAreAccepted) (whole : WholeIsAccepted) (all : AllAreAccepted) (served : IsServed) (differ : SessionsDiffer) (named : SessionsAreNamed) where
-  module _ (h : List ℕ → List ℕ) (database : Text) (size : ℕ) (says : ℕ → Type 0) (statements : List Statement) (p : Parts H) (x : HasRun h database size says statements p) where
+module _ {H : Type 0} (agree : RunsAgree) (legal : JournalsAreLegal) (theirs : TimesAreTheirs) (kept : KeptAreAccepted) (whole : WholeIsAccepted) (all : AllAreAccepted) (served : IsServed) (differ : SessionsDiffer) (named : SessionsAreNamed) where
+  module _ (h : List ℕ → List ℕ) (past : Past) (database : Text) (size : ℕ) (says : ℕ → Type 0) (statements : List Statement) (p : Parts H) (x : HasRun h past database size says statements p) where
     abbrev names : List Text
     names = sessions_of statements
 
@@ -123,19 +125,19 @@ module _ {H : Type 0} (agree : SequentialRunsAgree) (legal : JournalsAreLegal) (
     abbrev serves : Serves h statement_of v
     serves = (served h statement_of).1
 
-    they_agree : RunAgrees h statement_of database size names (lines_of statements) X images J p.digests
-    they_agree = agree h statement_of database size names (lines_of statements) x.times X images J p.digests x.left.names (names_apart names (differ statements)) x.left.ended
+    they_agree : RunAgreesBehind h statement_of database size past names (lines_of statements) X images J p.digests
+    they_agree = agree h statement_of database size past names (lines_of statements) x.times X images J p.digests x.left.names (names_apart names (differ statements)) x.left.ended
 
     is_legal : IsLegalJournal statement_of (record { version = JOURNAL_VERSION; database = database; items = J })
     is_legal = subst (λ (reads : Reading). IsLegalJournal reads (record { version = JOURNAL_VERSION; database = database; items = J })) serves.reading
-        (legal v database size names (lines_of statements) x.times X images J p.digests (x.left.ended v serves) x.left.names x.database_is_named x.sessions_are_named
+        (legal v database size past names (lines_of statements) x.times X images J p.digests (x.left.ended v serves) x.left.names x.database_is_named x.sessions_are_named
         (each_weaker (IsMoment says) (λ time. is_moment time ≡ true) (moment_is says) x.times x.moments))
 
     the_journal : record { version = JOURNAL_VERSION; database = database; items = J } ≡ p.journal
     the_journal = ap₂ (λ (v : ℕ) (d : Text). record { version = v; database = d; items = J }) (sym x.left.version) (sym x.left.database)
 
-    in_time : Each (λ time. In time x.times) (journals.times J) × Each (λ d. In d.made x.times) p.digests
-    in_time = theirs v database size names (lines_of statements) x.times X images J p.digests (x.left.ended v serves)
+    in_time : Each (λ time. In time x.times) (journals.times (since past J)) × Each (λ d. In d.made x.times) p.digests
+    in_time = theirs v database size past names (lines_of statements) x.times X images J p.digests (x.left.ended v serves)
 
     are_written_so : AreWritten X (lines_of statements) (woven (numbers_of names statements) (map (λ y. y.entries) X))
     are_written_so =
@@ -155,25 +157,25 @@ module _ {H : Type 0} (agree : SequentialRunsAgree) (legal : JournalsAreLegal) (
     each_has = each_weaker (λ ks. Each (IsImageOf h statement_of database J) ks) (λ ks. Each (λ k. k.1 ≡ bytes k.0) ks)
         (λ ks. each_weaker (IsImageOf h statement_of database J) (λ k. k.1 ≡ bytes k.0) (λ k is. is.bytes) ks) images (they_agree).are_images
 
-    last_accepted : IsAccepted h database J p.digests (last_image h p.journal)
-    last_accepted = subst (λ (j : Journal). IsAccepted h database J p.digests (length J, image_bytes (image_of h statement_of j.database J))) the_journal
-        (whole h database size names (lines_of statements) X images J p.digests they_agree is_legal x.left.room)
+    last_accepted : IsAcceptedBehind h database past J p.digests (last_image h p.journal)
+    last_accepted = subst (λ (j : Journal). IsAcceptedBehind h database past J p.digests (last_image h j)) the_journal
+        (whole h database size past names (lines_of statements) X images J p.digests they_agree is_legal x.left.room)
 
     all_so : verdict_of h (map held p.digests) (last_image_bytes h p.journal) ≡ Yes
-    all_so = subst (λ (j : Journal). verdict_of h (map held p.digests) (image_bytes (image_of h statement_of j.database J)) ≡ Yes) the_journal
-        (all h database size names (lines_of statements) X images J p.digests they_agree is_legal x.left.room)
+    all_so = subst (λ (j : Journal). verdict_of h (map held p.digests) (last_image_bytes h j) ≡ Yes) the_journal
+        (all h database size past names (lines_of statements) X images J p.digests they_agree is_legal x.left.room)
 
-    pub comes_to : CameTo h database size says statements (run_left statements X p)
+    pub comes_to : CameToBehind h database size past says statements (run_left statements X p)
     comes_to = record {
       agrees = they_agree;
       version = x.left.version;
       legal = subst (λ (j : Journal). IsLegalJournal statement_of j) the_journal is_legal;
       of_database = x.left.database;
-      times = each_weaker (λ time. In time x.times) (IsMoment says) (λ time i. each_in (IsMoment says) x.times time x.moments i) (journals.times J) (in_time).0;
+      times = each_weaker (λ time. In time x.times) (IsMoment says) (λ time i. each_in (IsMoment says) x.times time x.moments i) (journals.times (since past J)) (in_time).0;
       made = each_weaker (λ (d : Digest). In d.made x.times) (λ d. IsMoment says d.made) (λ d i. each_in (IsMoment says) x.times d.made x.moments i) p.digests (in_time).1;
       written = are_written_so;
       saved = are_kept bytes images each_has;
-      accepted = push (IsAccepted h database J p.digests) (with_each images) (last_image h p.journal)
-          (each_of_all (IsAccepted h database J p.digests) images (kept h database size names (lines_of statements) X images J p.digests they_agree is_legal x.left.room)) last_accepted;
+      accepted = push (IsAcceptedBehind h database past J p.digests) (with_each images) (last_image h p.journal)
+          (each_of_all (IsAcceptedBehind h database past J p.digests) images (kept h database size past names (lines_of statements) X images J p.digests they_agree is_legal x.left.room)) last_accepted;
       all_accepted = all_so;
     }

@@ -3,6 +3,7 @@ pub mod Ends
 pub mod Joins
 pub mod Named
 pub mod Nexts
+pub mod NoPast
 pub mod OneList
 pub mod Places
 pub mod Steps

@@ -5,6 +5,7 @@ use mathlib.Core.Option.{Option, some}
 use lib.ListN.{get_elem?}
 use Rattle.std.proofs.lemmas.Bool.Decides.{nat_tests}
 use Rattle.std.proofs.lemmas.List.{map_push}
+use Rattle.law_behind.specs.Past.{Past}
 use Rattle.server_engine.specs.EndsLast.{running}
 use Rattle.spec_history.specs.Inputs.{InputLine}
 use Rattle.spec_history.specs.Lists.{Text, Each}
@@ -29,20 +30,21 @@ when_ok (Err e) p = tt
 abbrev one_line : Statement → InputLine
 one_line s = record { session = s.session; text = s.text }
 
-abbrev asked_lines : Text → ℕ → List Text → List ℕ → List InputLine → CoreInput
-asked_lines database size names times lines = record {
+abbrev asked_lines : Past → Text → ℕ → List Text → List ℕ → List InputLine → CoreInput
+asked_lines past database size names times lines = record {
   database = database;
   size = size;
+  past = past;
   phase = running;
   names = names;
   lines = lines;
   moments = times;
 }
 
-more_asked : (database : Text) (size : ℕ) (names : List Text) (before : List Statement) (s : Statement) (times : List ℕ) (time : ℕ)
-    → with_line s.session s.text time (asked database size names before times) ≡ asked database size names (before ++ s ∷ []) (times ++ time ∷ [])
-more_asked database size names before s times time =
-    ap (asked_lines database size names (times ++ time ∷ [])) (sym (map_push one_line before s))
+more_asked : (past : Past) (database : Text) (size : ℕ) (names : List Text) (before : List Statement) (s : Statement) (times : List ℕ) (time : ℕ)
+    → with_line s.session s.text time (asked past database size names before times) ≡ asked past database size names (before ++ s ∷ []) (times ++ time ∷ [])
+more_asked past database size names before s times time =
+    ap (asked_lines past database size names (times ++ time ∷ [])) (sym (map_push one_line before s))
 
 pub push : {A : Type 0} (P : A → Type 0) (xs : List A) (x : A) → Each P xs → P x → Each P (xs ++ x ∷ [])
 push P [] x e p = (p, tt)
@@ -50,19 +52,19 @@ push P (y ∷ ys) x e p = (e.0, push P ys x e.1 p)
 
 module _ {H : Type 0} (digest : H → List ℕ → List ℕ) where
   -- one statement more was run
-  pub reached_more : {T E : Type 0} (h : H) (database : Text) (size : ℕ) (names : List Text) (says : ℕ → Type 0) (before : List Statement) (c d : Core H) (s : Statement) (session time : ℕ) (r : Result T E)
+  pub reached_more : {T E : Type 0} (h : H) (past : Past) (database : Text) (size : ℕ) (names : List Text) (says : ℕ → Type 0) (before : List Statement) (c d : Core H) (s : Statement) (session time : ℕ) (r : Result T E)
       → IsMoment says time → get_elem? names session ≡ some s.session
       → ((k : H) (a : CoreInput) (name : Text) → Stands digest k c a → a.phase ≡ running → get_elem? a.names session ≡ some name → OnOk r (Stands digest k d (with_line name s.text time a)))
-      → Reached digest h database size names says before c → OnOk r (Reached digest h database size names says (before ++ s ∷ []) d)
-  reached_more h database size names says before c d s session time r moment there stands reached =
+      → Reached digest h past database size names says before c → OnOk r (Reached digest h past database size names says (before ++ s ∷ []) d)
+  reached_more h past database size names says before c d s session time r moment there stands reached =
       on_ok r (λ standing. record {
         times = reached.times ++ time ∷ [];
         moments = push (IsMoment says) reached.times time reached.moments moment;
-        stands = subst (λ (a : CoreInput). Stands digest h d a) (more_asked database size names before s reached.times time) standing;
-      }) (stands h (asked database size names before reached.times) s.session reached.stands refl there)
+        stands = subst (λ (a : CoreInput). Stands digest h d a) (more_asked past database size names before s reached.times time) standing;
+      }) (stands h (asked past database size names before reached.times) s.session reached.stands refl there)
 
-  pub reached_none : (h : H) (database : Text) (size : ℕ) (names : List Text) (says : ℕ → Type 0) (c : Core H) → Stands digest h c (asked database size names [] []) → Reached digest h database size names says [] c
-  reached_none h database size names says c standing = record { times = []; moments = tt; stands = standing }
+  pub reached_none : (h : H) (past : Past) (database : Text) (size : ℕ) (names : List Text) (says : ℕ → Type 0) (c : Core H) → Stands digest h c (asked past database size names [] []) → Reached digest h past database size names says [] c
+  reached_none h past database size names says c standing = record { times = []; moments = tt; stands = standing }
 
   -- its sessions are ended one by one
   pub ended_more : {T E : Type 0} (h : H) (a : CoreInput) (c d : Core H) (r : Result T E) → ((k : H) (b : CoreInput) → Stands digest k c b → OnOk r (Stands digest k d (at_end b))) → StandsEnded digest h c a → OnOk r (StandsEnded digest h d a)

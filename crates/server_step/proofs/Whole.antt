@@ -9,6 +9,7 @@ use Rattle.law_image.specs.Room.{FitsImageFormat}
 use Rattle.spec_syntax.specs.Text.{statement_of}
 use Rattle.format_journal.specs.Rules.{IsJournal}
 use Rattle.format_digest.specs.Writing.{HasMoments}
+use Rattle.law_behind.specs.Past.{Past}
 use Rattle.format_lines.specs.Sessions.{sessions_of}
 use Rattle.server_engine.specs.declared.parts.Parts.{Parts}
 use Rattle.server_result.specs.declared.ran.RunOutcome.{RunOutcome}
@@ -32,10 +33,10 @@ text_of_rows text given names ss X shown same named texts is =
     ∙ sym (text_is_woven (numbers_of names ss) X)
     ∙ ap (λ (ns : List Text). rows_text ns (woven (numbers_of names ss) (map (λ x. x.entries) X))) named
 
-pub is_ran : {H : Type 0} (h : List ℕ → List ℕ) (database : Text) (size : ℕ) (says : ℕ → Type 0) (ss : List Statement) (names : List Text) (p : Parts H) (x : HasRun h database size says ss p) (r : RunOutcome)
+pub is_ran : {H : Type 0} (h : List ℕ → List ℕ) (past : Past) (database : Text) (size : ℕ) (says : ℕ → Type 0) (ss : List Statement) (names : List Text) (p : Parts H) (x : HasRun h past database size says ss p) (r : RunOutcome)
     → names ≡ sessions_of ss → HasKept names ss p r → IsJournal p.journal → AllByRecursion HasMoments p.digests
     → IsRunOutcome h (sessions_of ss) (run_left ss x.left.transcripts p) r
-is_ran h database size says ss names p x r same kept spelled moments = record {
+is_ran h past database size says ss names p x r same kept spelled moments = record {
   transcript = text_of_rows r.transcript names (sessions_of ss) ss x.left.transcripts (map (λ y. y.entries) p.sessions.items) same x.left.names x.left.texts kept.transcript;
   images = kept.images;
   image = kept.image ∙ x.left.image ∙ ap (λ (d : Text). image_bytes (image_of h statement_of d p.journal.items)) (sym x.left.database);

@@ -1,4 +1,5 @@
 pub mod Came
+pub mod CameBehind
 pub mod Lines
 pub mod Numbers
 pub mod RunOutcome

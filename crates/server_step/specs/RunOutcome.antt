@@ -13,6 +13,7 @@ use Rattle.format_lines.specs.Line.{Statement}
 use Rattle.format_lines.specs.Sessions.{sessions_of}
 use Rattle.server_engine.specs.Parts.{HasLeft}
 use Rattle.server_engine.specs.declared.parts.Parts.{Parts}
+use Rattle.law_behind.specs.Past.{Past}
 use Rattle.law_kept_images.specs.LastImage.{last_image_bytes}
 use Rattle.server_result.specs.Images.{with_each}
 use Rattle.server_result.specs.Moments.{IsMoment}
@@ -37,14 +38,14 @@ pub record IsRunOutcome (h : List ℕ → List ℕ) (names : List Text) (run : R
 
 -- ---- what a core left
 
--- a core that these statements were asked of left this
-pub record HasRun {H : Type 0} (h : List ℕ → List ℕ) (database : Text) (size : ℕ) (says : ℕ → Type 0)
-    (statements : List Statement) (p : Parts H) : Type 0 where
+-- a core that these statements were asked of, behind this past, left this
+pub record HasRun {H : Type 0} (h : List ℕ → List ℕ) (past : Past) (database : Text) (size : ℕ)
+    (says : ℕ → Type 0) (statements : List Statement) (p : Parts H) : Type 0 where
   pub database_is_named : is_database_name database ≡ true
   pub sessions_are_named : Each (λ name. is_session_name name ≡ true) (sessions_of statements)
   pub times : List ℕ
   pub moments : Each (IsMoment says) times
-  pub left : HasLeft h (asked database size (sessions_of statements) statements times) p
+  pub left : HasLeft h (asked past database size (sessions_of statements) statements times) p
 
 -- this is written and saved of what it left
 pub record HasKept {H : Type 0} (names : List Text) (statements : List Statement) (p : Parts H)

@@ -8,4 +8,4 @@ mod running;
 mod sessions;
 mod weaving;
 
-pub use running::run_lines;
+pub use running::{run_lines, run_lines_behind};

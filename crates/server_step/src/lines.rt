@@ -3,6 +3,7 @@
 ghost use Rattle.std.specs.Prelude.{ℕ, ◌≡◌, ◌++◌, ◌∷◌, [], List, length, map, All, OnOk, true};
 ghost use Rattle.std.specs.List.{list_any};
 ghost use Rattle.std.specs.Str.{bytes_eq};
+ghost use Rattle.law_behind.specs.Past.{Past};
 ghost use Rattle.server_engine.specs.Standing.{MayTakeStatement, Stands};
 ghost use Rattle.format_lines.specs.Line.{Statement, seen};
 ghost use Rattle.server_result.specs.Moments.{said_with};
@@ -29,10 +30,10 @@ fn run_line<H: Hash32, C: Clock>(
     requires standing { MayTakeStatement H.digest core.old }
     requires open { AreOpen core.old (length sessions.now) }
     requires named { list_any (bytes_eq line.now.session.now) (map (λ n. n.now) sessions.now) ≡ true }
-    ensures reached { (h : H) (database : List ℕ) (size : ℕ) (before : List Statement)
-        → Reached H.digest h database size (map (λ n. n.now) sessions.now)
+    ensures reached { (h : H) (past : Past) (database : List ℕ) (size : ℕ) (before : List Statement)
+        → Reached H.digest h past database size (map (λ n. n.now) sessions.now)
         (said_with given (C.says clock.now)) before core.old
-        → OnOk result (Reached H.digest h database size (map (λ n. n.now) sessions.now)
+        → OnOk result (Reached H.digest h past database size (map (λ n. n.now) sessions.now)
         (said_with given (C.says clock.now)) (before ++ seen line.now ∷ []) core.new) }
     ensures open { OnOk result (AreOpen core.new (length sessions.now)) }
 {
@@ -51,14 +52,14 @@ pub(crate) fn run_each<H: Hash32, C: Clock>(
     clock: &C,
     core: &mut Core<H>,
 ) -> Result<(), Memory>
-    requires begins { (h : H) × (database : List ℕ) × (size : ℕ)
-        × Stands H.digest h core.old (asked database size (map (λ n. n.now) sessions.now) [] []) }
+    requires begins { (h : H) × (past : Past) × (database : List ℕ) × (size : ℕ)
+        × Stands H.digest h core.old (asked past database size (map (λ n. n.now) sessions.now) [] []) }
     requires open { AreOpen core.old (length sessions.now) }
     requires named { All (λ l. list_any (bytes_eq l.session.now) (map (λ n. n.now) sessions.now) ≡ true)
         lines.now }
-    ensures reached { (h : H) (database : List ℕ) (size : ℕ)
-        → Stands H.digest h core.old (asked database size (map (λ n. n.now) sessions.now) [] [])
-        → OnOk result (Reached H.digest h database size (map (λ n. n.now) sessions.now)
+    ensures reached { (h : H) (past : Past) (database : List ℕ) (size : ℕ)
+        → Stands H.digest h core.old (asked past database size (map (λ n. n.now) sessions.now) [] [])
+        → OnOk result (Reached H.digest h past database size (map (λ n. n.now) sessions.now)
         (said_with given (C.says clock.now)) (map seen lines.now) core.new) }
     ensures open { OnOk result (AreOpen core.new (length sessions.now)) }
 {

@@ -2,6 +2,7 @@
 
 ghost use Rattle.std.specs.Prelude.{ℕ, ◌≡◌, List, [], length, map, All, OnOk, true};
 ghost use Rattle.base_types.specs.SessionName.{is_session_name};
+ghost use Rattle.law_behind.specs.Past.{Past};
 ghost use Rattle.server_engine.specs.CoreInput.{CoreInput};
 ghost use Rattle.server_engine.specs.Standing.{IsStanding, Stands};
 ghost use Rattle.server_step.specs.Reached.{AreEnded, AreOpen, StandsEnded, asked};
@@ -17,12 +18,13 @@ pub(crate) fn open_sessions<H: Hash32>(
     sessions: &[&str],
     core: &mut Core<H>,
 ) -> Result<(), Memory>
-    requires begins { (h : H) × (database : List ℕ) × (size : ℕ)
-        × Stands H.digest h core.old (asked database size [] [] []) }
+    requires begins { (h : H) × (past : Past) × (database : List ℕ) × (size : ℕ)
+        × Stands H.digest h core.old (asked past database size [] [] []) }
     requires names { All (λ n. is_session_name n.now ≡ true) sessions.now }
-    ensures stands { (h : H) (database : List ℕ) (size : ℕ)
-        → Stands H.digest h core.old (asked database size [] [] [])
-        → OnOk result (Stands H.digest h core.new (asked database size (map (λ n. n.now) sessions.now) [] [])) }
+    ensures stands { (h : H) (past : Past) (database : List ℕ) (size : ℕ)
+        → Stands H.digest h core.old (asked past database size [] [] [])
+        → OnOk result (Stands H.digest h core.new (asked past database size
+        (map (λ n. n.now) sessions.now) [] [])) }
     ensures open { OnOk result (AreOpen core.new (length sessions.now)) }
 {
     for session in sessions {

@@ -7,5 +7,5 @@ mod Snapshots
 mod StepsAhead
 mod Telling
 mod Visiting
-pub use Rattle.server_board.proofs.Beginning
+pub use Rattle.server_board.proofs.Begins
 pub use Rattle.server_engine.proofs.FirstCells

@@ -1,5 +1,5 @@
 -- A visit of a session is one that its seat may make on the board, with the steps that the board doesn't know yet.
-use Rattle.std.proofs.Common.{◌≡◌, ◌<◌, ℕ, List, [], ◌∷◌, ◌++◌, append-nil, map, slice_set, take, refl, sym, ap, subst, ◌∙◌, inr}
+use Rattle.std.proofs.Common.{◌≡◌, ◌<◌, ℕ, suc, List, [], ◌∷◌, ◌++◌, append-nil, map, slice_set, take, refl, sym, ap, subst, ◌∙◌, inr}
 use mathlib.Core.Option.{some}
 use lib.ListN.{get_elem?}
 use Rattle.base_board.specs.Outs as board
@@ -64,11 +64,12 @@ module _ {H C : Type 0} (digest : H → List ℕ → List ℕ) (says : C → ℕ
       ∙ ap (λ (ts : List Text). statements so_far ++ ts) (stays_under_way y.seat.point z.point z.text stays.point ∙ ap (under_way y.seat.point) stays.text) ∙ now.texts
 
   module _ (cells : List KeptCell) (seats : List SeatState) (j : ℕ) (stands : StandsOn (λ (c : KeptCell). c.cell) Keeps d cells seats) (there : get_elem? seats j ≡ some s) where
+    -- behind the seat of the past
     abbrev pub seats_ahead : List SeatState
-    seats_ahead = slice_set seats j ahead.t
+    seats_ahead = slice_set (stands.start.begins.seat ∷ seats) (suc j) ahead.t
 
     pub together_ahead : StandTogether d.server (map (λ (c : KeptCell). c.cell) cells) seats_ahead
-    together_ahead = stand_ahead d.server (map (λ (c : KeptCell). c.cell) cells) seats stands.together j s ahead.t there ahead.steps
+    together_ahead = stand_ahead d.server (map (λ (c : KeptCell). c.cell) cells) (stands.start.begins.seat ∷ seats) stands.together (suc j) s ahead.t there ahead.steps
 
     pub keeps_there : (i : ℕ) (c : KeptCell) → get_elem? cells i ≡ some c → Keeps d.server.hash c
     keeps_there i c here = each_there (Keeps d.server.hash) cells stands.kept i c here
@@ -85,9 +86,9 @@ module _ {H C : Type 0} (digest : H → List ℕ → List ℕ) (says : C → ℕ
       needs = needs;
       here = seen_at (λ (c : KeptCell). c.cell) cells i c here;
       keeps = subst (λ (h : List ℕ → List ℕ). Keeps h c) serves.hash (keeps_there i c here);
-      j = j;
+      j = suc j;
       s = ahead.t;
-      there = set_here seats j ahead.t s there;
+      there = set_here (stands.start.begins.seat ∷ seats) (suc j) ahead.t s there;
       sits = now.sits;
     }
 
@@ -99,9 +100,9 @@ module _ {H C : Type 0} (digest : H → List ℕ → List ℕ) (says : C → ℕ
       seats = seats_ahead;
       together = together_ahead;
       needs = needs;
-      j = j;
+      j = suc j;
       s = ahead.t;
-      there = set_here seats j ahead.t s there;
+      there = set_here (stands.start.begins.seat ∷ seats) (suc j) ahead.t s there;
       sits = now.sits;
     }
 

@@ -11,7 +11,7 @@ mod worker;
 
 pub use builder::builder_job;
 pub use server_board::Serving;
-pub use server_engine::{SessionEnd, first_cells};
+pub use server_engine::{Cell, SessionEnd, first_cells, runs_start};
 pub use session::session_job;
 pub use shared::{Cells, Run, ThreadSeat};
 pub use worker::Job;

@@ -19,13 +19,13 @@ step-requires-clause-open g c κs inside =
     c.requires.open c.number_of-session.result (omega (arith, c.number_of-session.ensures, less, many))
 
 pub returns-clause-reached : goal.returns-clause-reached
-returns-clause-reached g c h database size before reached =
+returns-clause-reached g c h past database size before reached =
     let names = map (λ (n : Bor (List ℕ)). n.now) c.args.sessions.now in
     let name = c.args.line.now.session.now in
     let session = c.number_of-session.result in
     let time = c.moment.result in
     let there : get_elem? names session ≡ some name = ap (get_elem? names) c.number_of-session.ensures ∙ found names name c.requires.named in
-    reached_more g.H.Hash32.digest h database size names (said_with c.args.given (g.C.Clock.says c.args.clock.now)) before c.args.core.now c.step.new.self (seen c.args.line.now) session time c.step.result
+    reached_more g.H.Hash32.digest h past database size names (said_with c.args.given (g.C.Clock.says c.args.clock.now)) before c.args.core.now c.step.new.self (seen c.args.line.now) session time c.step.result
     c.moment.ensures.said there
     (λ k a n standing runs is. subst (λ (t : Text). OnOk c.step.result (Stands g.H.Hash32.digest k c.step.new.self (with_line n t time a))) c.in_ok-text.ensures (c.step.ensures.stands k a n standing runs is))
     reached

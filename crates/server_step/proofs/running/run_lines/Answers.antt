@@ -1,17 +1,19 @@
-use Rattle.std.proofs.Common.{List, ℕ, map, Bor}
-use Rattle.std.specs.List.{AllByRecursion}
-use Rattle.spec_syntax.specs.Text.{statement_of}
-use Rattle.server_engine.proofs.SessionOutput.{some_meaning}
-use Rattle.law_server.proofs.Servers.{some_server}
-use Rattle.format_digest.specs.Writing.{HasMoments}
+use Rattle.std.proofs.Common.{◌≡◌, ℕ, List, map, sym, subst}
 use Rattle.format_lines.specs.Line.{seen}
+use Rattle.server_engine.specs.FirstCells.{first_kept}
+use Rattle.server_engine.specs.Starts.{Starts, past_in}
 use Rattle.server_result.specs.Moments.{said_with}
-use Rattle.server_result.proofs.Made.{have_moments}
-use Rattle.server_step.specs.RunOutcome.{run_left}
-use Rattle.server_step.proofs.Comes.{comes_to}
-use Rattle.server_step.proofs.Ends.{if_ok}
-use Rattle.server_step.proofs.Whole.{is_ran}
+use Rattle.server_step.specs.CameBehind.{CameToBehind}
+use Rattle.server_step.proofs.NoPast.{came_first}
 use Rattle.server_step.proofs.running.run_lines.Goals as goal
+
+pub run_lines_behind-requires-clause-starts : goal.run_lines_behind-requires-clause-starts
+run_lines_behind-requires-clause-starts g c κs within =
+    let h = g.H.Hash32.digest c.args.hasher in
+    let database = c.args.how.database.now in
+    let size = c.args.how.block_size in
+    let are = subst (λ (name : List ℕ). c.in_ok-cells.cells.items ≡ first_kept name size) c.in_ok-database.ensures c.in_ok-cells.ensures in
+    subst (Starts h database size) (sym are) (c.runs_start.ensures.with_none h database size c.requires.some c.requires.most)
 
 pub returns : goal.returns
 returns g c =
@@ -19,13 +21,7 @@ returns g c =
     let database = c.args.how.database.now in
     let size = c.args.how.block_size in
     let says = said_with c.args.how.clock (g.C.Clock.says c.args.clock.now) in
-    let ss = map seen c.args.lines.now in
-    let names = map (λ (n : Bor (List ℕ)). n.now) c.args.sessions.now in
-    let p = c.in_ok-parts.parts in
-    let x = c.in_ok-parts.ensures in
-    let accepted = c.kept_images_are_accepted.ensures in
-    let came = comes_to c.ended_sequential_runs_agree.ensures c.journals_of_sequential_runs_are_legal.ensures c.times_are_those_of_sessions.ensures accepted.room accepted.whole accepted.all
-    some_server c.sessions_law.ensures.once c.sessions_law.ensures.named h database size says ss p x in
-    let m = some_meaning h statement_of in
-    let moments : AllByRecursion HasMoments p.digests = have_moments m.0 database p.journal.items says p.digests came.times came.made (came.agrees.agree m.0 m.1).digests_are_the_journals.each in
-    if_ok c.left_by.result (λ r kept. (run_left ss x.left.transcripts p, came, is_ran h database size says ss names p x r c.requires.sessions kept (c.is_encodable.ensures statement_of came.legal) moments)) c.left_by.ensures
+    let statements = map seen c.args.lines.now in
+    let ran = c.in_ok-ran.ensures in
+    let came = subst (λ cells. CameToBehind h database size (past_in cells) says statements ran.0) c.in_ok-cells.ensures ran.1 in
+    (ran.0, came_first c.runs_behind_no_past_agree.ensures h database size says statements ran.0 came, ran.2)

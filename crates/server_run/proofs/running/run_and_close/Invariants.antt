@@ -1,7 +1,0 @@
-use Rattle.spec_syntax.specs.Text.{statement_of}
-use Rattle.law_server.proofs.Servers.{some_server}
-use Rattle.server_run.proofs.running.run_and_close.Given as goal
-
--- the database that is asked for, of a server that reads by the grammar and hashes with the hasher
-abbrev pub ghosts-run_over : goal.ghosts-run_over
-ghosts-run_over g a = record { database = record { server = (some_server (g.H.Hash32.digest a.hasher) statement_of).0; database = a.how.database.now; size = a.how.block_size } }
