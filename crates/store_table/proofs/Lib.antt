@@ -1,4 +1,5 @@
 pub mod Asking
+pub mod AtOnce
 pub mod Between
 pub mod ByKey
 pub mod Carrying

@@ -1,5 +1,6 @@
 pub mod Calls
 pub mod Ends
+pub mod GoingOn
 pub mod Kept
 pub mod Made
 pub mod Orders

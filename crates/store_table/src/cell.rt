@@ -28,9 +28,9 @@ use store_tx::TxCtx;
 /// cell of which the laws on visits speak.
 #[derive(Drop)]
 pub struct TableCell {
-    store: VersionStore,
-    locks: LockList,
-    id: TableId,
+    pub(crate) store: VersionStore,
+    pub(crate) locks: LockList,
+    pub(crate) id: TableId,
 }
 
 impl Model for TableCell {

@@ -11,6 +11,7 @@ ghost use Rattle.store_table.specs.declared.ending.Ending.{Ending as SpecEnding}
 use crate::searching::is_undone;
 use base_types::{Memory, TxId};
 use sql_types::EventId;
+use std::cmp::Ordering;
 
 /// The end of a version.
 #[derive(Clone, Copy, Debug, PartialEq, Eq)]
@@ -21,10 +22,17 @@ pub struct Ending {
     pub start: EventId,
 }
 
+/// The order of two ends: by the events that made them, and then by those that started the versions.
+pub fn compare_endings(a: &Ending, b: &Ending) -> Ordering
+    ensures { result ≡ ending_cmp a.now b.now }
+{
+    a.end.cmp(&b.end).then(a.start.cmp(&b.start))
+}
+
 fn comes_before(a: &Ending, b: &Ending) -> bool
     ensures { result ≡ is_lt (ending_cmp a.now b.now) }
 {
-    a.end.cmp(&b.end).then(a.start.cmp(&b.start)).is_lt()
+    compare_endings(a, b).is_lt()
 }
 
 /// Where an end stands among ends in their order, or would stand, by halving.

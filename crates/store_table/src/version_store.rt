@@ -38,12 +38,12 @@ use store_order::Starts;
 #[derive(Drop)]
 pub struct VersionStore {
     // The places of the key's columns, where there are versions.
-    key: Vec<usize>,
-    versions: Vec<Version>,
-    orders: Orders,
+    pub(crate) key: Vec<usize>,
+    pub(crate) versions: Vec<Version>,
+    pub(crate) orders: Orders,
     // So many more versions may start.
-    room: usize,
-    alloc: Global,
+    pub(crate) room: usize,
+    pub(crate) alloc: Global,
 }
 
 impl Model for VersionStore {

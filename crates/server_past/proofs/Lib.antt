@@ -1,0 +1,2 @@
+pub mod PastCells
+pub mod Ready

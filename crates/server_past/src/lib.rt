@@ -1,0 +1,8 @@
+//! The cells with which a database goes on from a journal.
+#![tactic(auto)]
+
+mod cells;
+mod laws;
+
+pub use cells::past_cells;
+pub use laws::cells_of_a_past_are_those_of_its_journal;
