@@ -33,7 +33,7 @@ use Rattle.spec_verify.specs.declared.place.Verdict.TheVariants.{Yes}
 use Rattle.spec_verify.specs.Bytes.{verdict_of}
 use Rattle.law_kept_images.specs.Held.{AllHeld, IsHeld, held}
 use Rattle.spec_protocol.specs.Cells.{Cell, Ledger, LedgerCell, ledger_at}
-use Rattle.spec_protocol.specs.LedgerIsLegal.{FitsBlock, IsOfCell}
+use Rattle.spec_protocol.specs.LedgerIsLegal.{IsOfCell}
 use Rattle.spec_protocol.specs.Reordered.{NamesApart}
 use Rattle.spec_protocol.specs.JournalForms.{journal_in}
 use Rattle.spec_protocol.specs.Seats.{KeptImage, SeatState, Written}
@@ -41,6 +41,7 @@ use Rattle.spec_protocol.specs.Server.{Server}
 use Rattle.spec_protocol.specs.Serves.{Serves}
 use Rattle.spec_protocol.specs.StandTogether.{History, Stands}
 use Rattle.law_protocol_steps.proofs.AfterSet.{all_at, each_at}
+use Rattle.law_moments.specs.AddedInTime.{FitsBlock}
 use Rattle.law_behind.specs.AgreeBehind.{AgreeBehind}
 use Rattle.law_behind.specs.OrderBehind.{AreInOneOrderBehind, HaveOneOrderBehind}
 use Rattle.law_behind.specs.Past.{Past, no_past, since}
@@ -256,7 +257,7 @@ module _ (meanings_agree : MeaningsAgree) (meanings_show : MeaningsShow) (verify
       version = refl;
       legal = legal;
       of_database = refl;
-      closings = subst (λ (n : ℕ). Each (FitsBlock n) J) x.of_size together.closings;
+      closings = subst (λ (n : ℕ). Each (FitsBlock n) (since past J)) x.of_size together.closings;
       times = each_weaker (IsMomentOf written) IsSaid said (times (since past J)) together.times;
       made = each_weaker (λ (d : Digest). IsMomentOf written d.made) (λ d. IsSaid d.made) (λ d m. said d.made m) G together.made;
       shown = λ q m. all_shown v l q (meanings_show h statement_of v.meaning q meaning m) written together.images;

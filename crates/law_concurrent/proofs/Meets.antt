@@ -26,6 +26,7 @@ use Rattle.spec_protocol.specs.Seats.{IsAtRest, Role, session, SeatState, Writte
 use Rattle.spec_protocol.specs.Server.{Server}
 use Rattle.spec_protocol.specs.StandTogether.{History, Stands}
 use Rattle.spec_protocol.specs.TranscriptsAgree.{IsMoment, moments_of, session_moments}
+use Rattle.law_moments.specs.AddedInTime.{AddedInTime, FitsBlock}
 use Rattle.law_kept_images.proofs.JournalKept.{legal_journal}
 use Rattle.law_kept_images.proofs.KeptImages.{have_images}
 use Rattle.law_kept_images.proofs.InSessionOrder.{in_order_of}
@@ -208,6 +209,9 @@ module _ (are_in_order : AreInOrder) (v : Server) (cells : List Cell) (w : Writt
         tt k t e;
   }
 
+  added : AddedInTime [] seats st.ledger
+  added = joined.added st.ledger st.are_cells.has_ledger
+
   ran_together : RanTogether v written st.ledger
   ran_together = record {
     agree = agree;
@@ -215,7 +219,7 @@ module _ (are_in_order : AreInOrder) (v : Server) (cells : List Cell) (w : Writt
     images = images;
     times = each_of (IsMoment seats) (IsMomentOf written) moment_is (times st.ledger.items) st.transcripts_agree.times;
     made = each_of (λ d. IsMoment seats d.made) (λ d. IsMomentOf written d.made) (λ d m. moment_is d.made m) st.ledger.issued st.transcripts_agree.made;
-    closings = st.ledger_is_legal.closings;
+    closings = subst (Each (FitsBlock st.ledger.block_size)) (sym added.are) added.closings;
     legal = λ f. legal_journal v history cells seats st (forms f);
   }
 

@@ -32,10 +32,10 @@ use Rattle.law_kept_images.proofs.SameNames.{differ, same_list}
 use Rattle.law_behind.specs.AgreeBehind.{AgreeBehind}
 use Rattle.law_behind.specs.Forgotten.{without}
 use Rattle.law_behind.specs.OrderBehind.{HaveOneOrderBehind}
-use Rattle.law_behind.specs.Past.{Past}
+use Rattle.law_behind.specs.Past.{Past, since}
 use Rattle.law_continued.specs.Start.{Start}
 use Rattle.law_going_on.specs.EndBehind.{AreWrittenBehind}
-use Rattle.law_moments.specs.AddedInTime.{AddedInTime}
+use Rattle.law_moments.specs.AddedInTime.{AddedInTime, FitsBlock}
 use Rattle.law_sequential.specs.RunStart.{RunStart}
 use Rattle.law_sequential.proofs.AtStart.{since_front}
 use Rattle.law_sequential.proofs.Over.{AgreesBehind}
@@ -217,15 +217,17 @@ module _ (agrees_behind : AgreesBehind) (in_any_order : AgreeInAnyOrder) {v : Se
   added : AddedInTime past.items seats st.ledger
   added = joined.added st.ledger st.are_cells.has_ledger
 
+  is_new : added.added ≡ since past st.ledger.items
+  is_new = sym (since_front past.items added.added) ∙ ap (drop (length past.items)) (sym added.are)
+
   ran_together : RanTogetherBehind v past written st.ledger
   ran_together = record {
     agree = agree;
     in_order = in_order;
     images = images;
-    times = subst (λ (is : List JournalItem). Each (IsMomentOf written) (times is)) (sym (since_front past.items added.added) ∙ ap (drop (length past.items)) (sym added.are))
-        (each_of (IsMoment seats) (IsMomentOf written) moment_is (times added.added) added.times);
+    times = subst (λ (is : List JournalItem). Each (IsMomentOf written) (times is)) is_new (each_of (IsMoment seats) (IsMomentOf written) moment_is (times added.added) added.times);
     made = each_of (λ d. IsMoment seats d.made) (λ d. IsMomentOf written d.made) (λ d m. moment_is d.made m) st.ledger.issued added.made;
-    closings = st.ledger_is_legal.closings;
+    closings = subst (Each (FitsBlock st.ledger.block_size)) is_new added.closings;
     legal = λ f. legal_journal v (begins.history ++ events) cells all_seats st (forms f);
   }
 

@@ -16,11 +16,11 @@ use Rattle.spec_verify.specs.declared.place.Verdict.TheVariants.{Yes}
 use Rattle.spec_verify.specs.Bytes.{verdict_of}
 use Rattle.law_kept_images.specs.Held.{held}
 use Rattle.spec_protocol.specs.AtTheEnd.{image_items}
-use Rattle.spec_protocol.specs.LedgerIsLegal.{FitsBlock}
 use Rattle.spec_protocol.specs.Seats.{KeptImage}
 use Rattle.law_kept_images.specs.SessionOutput.{IsImageOf, IsMeaning}
 use Rattle.law_kept_images.specs.Accepted.{IsAccepted}
 pub use Rattle.law_kept_images.specs.LastImage.{last_image, last_image_bytes}
+use Rattle.law_moments.specs.AddedInTime.{FitsBlock}
 use Rattle.law_concurrent.specs.InOrder.{RanInOneOrder}
 
 -- What is left of a run: of `setup`, and then of each session in the order of the plan, its transcript and

@@ -11,7 +11,7 @@ use Rattle.spec_syntax.specs.Text.{statement_of}
 use Rattle.spec_verify.specs.declared.place.Verdict.TheVariants.{Yes}
 use Rattle.spec_verify.specs.Bytes.{verdict_of}
 use Rattle.spec_protocol.specs.AtTheEnd.{image_items}
-use Rattle.spec_protocol.specs.LedgerIsLegal.{FitsBlock}
+use Rattle.law_moments.specs.AddedInTime.{FitsBlock}
 use Rattle.law_behind.specs.AgreeBehind.{AgreeBehind}
 use Rattle.law_behind.specs.Past.{Past, since}
 use Rattle.law_kept_images.specs.AcceptedBehind.{IsAcceptedBehind}
@@ -32,11 +32,11 @@ pub record CameToBehind (h : List ℕ → List ℕ) (database : Text) (size : �
   -- in it, of whatever session, and with those of the past
   pub in_order : (q : Meaning) → IsMeaning h statement_of q
       → RanInOneOrderBehind h q database past r.X r.kept r.J.items
-  -- the journal is a legal one of a server's version, of the database, and no block is greater than it may be
+  -- the journal is a legal one of a server's version, of the database; no new block is greater than it may be
   pub version : r.J.version ≡ JOURNAL_VERSION
   pub legal : IsLegalJournal statement_of r.J
   pub of_database : r.J.database ≡ database
-  pub closings : Each (FitsBlock size) r.J.items
+  pub closings : Each (FitsBlock size) (since past r.J.items)
   -- the times of its new transactions, and those at which the digests were made
   pub times : Each IsSaid (times (since past r.J.items))
   pub made : Each (λ d. IsSaid d.made) r.G

@@ -13,9 +13,9 @@ use Rattle.law_order.specs.OneOrder.{HaveOneOrder}
 use Rattle.spec_protocol.specs.AtTheEnd.{HasItsImages}
 use Rattle.spec_protocol.specs.Cells.{LedgerCell}
 use Rattle.spec_protocol.specs.JournalForms.{journal_in}
-use Rattle.spec_protocol.specs.LedgerIsLegal.{FitsBlock}
 use Rattle.spec_protocol.specs.Seats.{Written}
 use Rattle.spec_protocol.specs.Server.{Server}
+use Rattle.law_moments.specs.AddedInTime.{FitsBlock}
 use Rattle.law_kept_images.specs.Wrote.{transcripts_in}
 
 abbrev pub names_in : List Transcript → List (List ℕ)

@@ -6,9 +6,9 @@ use Rattle.spec_history.specs.Lists.{Each}
 use Rattle.spec_protocol.specs.AtTheEnd.{HasItsImages}
 use Rattle.spec_protocol.specs.Cells.{LedgerCell}
 use Rattle.spec_protocol.specs.JournalForms.{journal_in}
-use Rattle.spec_protocol.specs.LedgerIsLegal.{FitsBlock}
 use Rattle.spec_protocol.specs.Seats.{Written}
 use Rattle.spec_protocol.specs.Server.{Server}
+use Rattle.law_moments.specs.AddedInTime.{FitsBlock}
 use Rattle.law_behind.specs.AgreeBehind.{AgreeBehind}
 use Rattle.law_behind.specs.OrderBehind.{HaveOneOrderBehind}
 use Rattle.law_behind.specs.Past.{Past, since}
@@ -28,7 +28,7 @@ pub record RanTogetherBehind (v : Server) (past : Past) (written : List Written)
   -- the times of new transactions, and those at which digests were made, are moments of the sessions
   pub times : Each (IsMomentOf written) (times (since past ledger.items))
   pub made : Each (λ d. IsMomentOf written d.made) ledger.issued
-  -- each closing is at most the block size
-  pub closings : Each (FitsBlock ledger.block_size) ledger.items
+  -- each new closing is at most the block size
+  pub closings : Each (FitsBlock ledger.block_size) (since past ledger.items)
   -- the journal is a legal one, where all is well formed
   pub legal : AreFormed ledger written → IsLegalJournal v.reads (journal_in ledger)

@@ -20,7 +20,6 @@ use Rattle.spec_history.specs.Lists.{Text, Each, In}
 use Rattle.spec_protocol.specs.AllowedVisit.{first_seat}
 use Rattle.spec_protocol.specs.Cells.{Cell, LedgerCell, cell_of, holds_at, versions_at}
 use Rattle.spec_protocol.specs.Contents.{Known, contents, known}
-use Rattle.spec_protocol.specs.LedgerIsLegal.{FitsBlock}
 use Rattle.spec_protocol.specs.LocksAreRequested.{LocksAreRequested}
 use Rattle.spec_protocol.specs.LocksCover.{EndLiesUnder, IsUnderLocks}
 use Rattle.spec_protocol.specs.OpenOnes.{HasOpen}
@@ -61,7 +60,7 @@ module _ (v : Server) (c : Words) (database : Text) (size : ℕ) (J : List Journ
   no_one : (j : ℕ) (x : Session) (o : OpenTransaction) → HasOpen seats j x o → ⊥
   no_one j x o h = none_open v c database size J count j x o h
 
-  module _ (words : 1 ≤ count → AreWords v.reads c) (legal : IsLegal v.reads J) (may : Each (CanBeRetold v.reads count) J) (fits : Each (FitsBlock size) J) where
+  module _ (words : 1 ≤ count → AreWords v.reads c) (legal : IsLegal v.reads J) (may : Each (CanBeRetold v.reads count) J) where
     tables : AllByRecursion (TableOf J) T
     tables = (legal_tables v.reads J legal).each
 
@@ -90,7 +89,7 @@ module _ (v : Server) (c : Words) (database : Text) (size : ℕ) (J : List Journ
       catalog = catalog_of T;
       ledger = ledger;
       are_cells = are_cells T ledger;
-      ledger_is_legal = record { legal = legal; chain = refl; digests = tt; closings = fits; some_size = some_size; most_size = most_size };
+      ledger_is_legal = record { legal = legal; chain = refl; digests = tt; some_size = some_size; most_size = most_size };
       tables_are_serial = record {
         definitions = inl refl;
         goes_back = λ e is. absurd (let z : None ≡ Some e = is in cc);

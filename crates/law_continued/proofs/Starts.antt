@@ -18,7 +18,6 @@ use Rattle.spec_ledger.specs.Ledger.{ledger_from, ledger_of}
 use Rattle.law_blocks.proofs.Counting.{closed_counted, entries_counted}
 use Rattle.spec_protocol.specs.AllowedVisit.{first_seat}
 use Rattle.spec_protocol.specs.Cells.{Cell, Ledger, LedgerCell, first_cells, pending_in}
-use Rattle.spec_protocol.specs.LedgerIsLegal.{FitsBlock}
 use Rattle.spec_protocol.specs.Seats.{Written}
 use Rattle.spec_protocol.specs.Server.{Server}
 use Rattle.spec_protocol.specs.StandTogether.{Stands}
@@ -51,12 +50,12 @@ knew_none : (w : World) (moments : List ℕ) (n k : ℕ) → Each (λ (x : Writt
 knew_none w moments n zero = tt
 knew_none w moments n (suc k) = (refl, knew_none w moments (suc n) k)
 
-module _ (v : Server) (c : Words) (database : Text) (size : ℕ) (some_size : 1 ≤ size) (most_size : size ≤ max_block) (J : List JournalItem) (count : ℕ) (words : 1 ≤ count → AreWords v.reads c) (legal : IsLegal v.reads J) (may : Each (CanBeRetold v.reads count) J) (fits : Each (FitsBlock size) J) (few : unclosed J < size) where
+module _ (v : Server) (c : Words) (database : Text) (size : ℕ) (some_size : 1 ≤ size) (most_size : size ≤ max_block) (J : List JournalItem) (count : ℕ) (words : 1 ≤ count → AreWords v.reads c) (legal : IsLegal v.reads J) (may : Each (CanBeRetold v.reads count) J) (few : unclosed J < size) where
   abbrev cells : List Cell
   cells = continued_cells v database size J count
 
   st : Stands v (retold v.reads c J count) cells (past_seat v c J count ∷ first_seat cells ∷ [])
-  st = stands v c database size J count words legal may fits some_size most_size
+  st = stands v c database size J count words legal may some_size most_size
 
   its_ledger : ledger_with v database size J count ≡ st.ledger
   its_ledger = let f : some (Ledger (ledger_with v database size J count)) ≡ some (Ledger st.ledger) = st.are_cells.has_ledger in cc
@@ -117,5 +116,5 @@ cells_are v database size = refl
 pub starts_first : (v : Server) (database : Text) (size : ℕ) → 1 ≤ size → size ≤ max_block → (s : Start v database size) × (s.past ≡ no_past) × (s.cells ≡ first_cells database size)
 starts_first v database size some_size most_size =
     let few : 0 - 0 < size = omega (arith, some_size) in
-    let s = starts v no_words database size some_size most_size [] 0 (λ l. absurd (omega (arith, l))) tt tt tt few in
+    let s = starts v no_words database size some_size most_size [] 0 (λ l. absurd (omega (arith, l))) tt tt few in
     (s.0, s.1, s.2 ∙ cells_are v database size)

@@ -14,7 +14,6 @@ ghost use Rattle.spec_protocol.specs.AllowedVisit.{first_seat};
 ghost use Rattle.spec_protocol.specs.Cells.{first_cells};
 ghost use Rattle.spec_protocol.specs.Contents.{contents};
 ghost use Rattle.spec_protocol.specs.JournalForms.{HaveForms};
-ghost use Rattle.spec_protocol.specs.LedgerIsLegal.{FitsBlock};
 ghost use Rattle.spec_protocol.specs.LocksAreRequested.{LocksAreRequested};
 ghost use Rattle.spec_protocol.specs.Server.{Server};
 ghost use Rattle.spec_protocol.specs.StandTogether.{LocksAskedFor, Stands};
@@ -30,7 +29,7 @@ use law_printing::printing_is_read_back;
 pub fn a_legal_journal_goes_on()
     ensures stands { (v : Server) (c : Words) (database : Text) (size : ℕ) → 1 ≤ size → size ≤ max_block
         → (J : List JournalItem) (count : ℕ) → (1 ≤ count → AreWords v.reads c) → IsLegal v.reads J
-        → Each (CanBeRetold v.reads count) J → Each (FitsBlock size) J
+        → Each (CanBeRetold v.reads count) J
         → Stands v (retold v.reads c J count) (continued_cells v database size J count)
         (past_seat v c J count ∷ first_seat (continued_cells v database size J count) ∷ []) }
     ensures asked { (v : Server) (c : Words) (database : Text) (size : ℕ) (J : List JournalItem) (count : ℕ)
@@ -51,12 +50,12 @@ pub fn a_journal_that_goes_on_keeps_its_forms()
         (past_seat v c J count ∷ first_seat (continued_cells v database size J count) ∷ []) }
 {}
 
-/// So a server starts with such a journal, if in its blocks are no more entries than a block takes and fewer are in
-/// none: with it as its past. And it starts with none.
+/// So a server starts with such a journal, if fewer of its entries than a block takes are in no block, however many are
+/// in one: with it as its past. And it starts with none.
 pub fn a_server_starts()
     ensures with_a_journal { (v : Server) (c : Words) (database : Text) (size : ℕ) → 1 ≤ size → size ≤ max_block
         → (J : List JournalItem) (count : ℕ) → (1 ≤ count → AreWords v.reads c) → IsLegal v.reads J
-        → Each (CanBeRetold v.reads count) J → Each (FitsBlock size) J → unclosed J < size
+        → Each (CanBeRetold v.reads count) J → unclosed J < size
         → (s : Start v database size) × (s.past ≡ past_of J count)
         × (s.cells ≡ continued_cells v database size J count) × (s.seat ≡ past_seat v c J count) }
     ensures with_none { (v : Server) (database : Text) (size : ℕ) → 1 ≤ size → size ≤ max_block

@@ -1,4 +1,4 @@
--- Steps keep moments, and add to the journal what has moments of their seats.
+-- Steps keep moments, and add to the journal what has moments of their seats, and blocks of at most the block size.
 use Rattle.std.proofs.Common.{◌≡◌, ◌≢◌, ℕ, zero, suc, List, [], ◌∷◌, ◌++◌, flat_map, slice_set, refl, sym, ap, ◌∙◌, subst, ⊎_elim, append-nil, append_assoc}
 use Rattle.std.proofs.lemmas.Bool.{cases_eq}
 use Rattle.std.proofs.lemmas.Grind.{flat_map-append}
@@ -19,7 +19,7 @@ use Rattle.spec_protocol.specs.Steps.{Step, Steps, Visits}
 use Rattle.spec_protocol.specs.TranscriptsAgree.{IsMoment, moments_of, session_moments}
 use Rattle.spec_protocol.specs.Visits.{Happens}
 use Rattle.spec_protocol.proofs.Places.{set_else, set_here}
-use Rattle.law_moments.specs.AddedInTime.{AddedInTime}
+use Rattle.law_moments.specs.AddedInTime.{AddedInTime, FitsBlock}
 use Rattle.law_moments.proofs.AddsAt.{Adds, AddsThen, visit_adds}
 use Rattle.law_moments.proofs.Keeps.{KeepsMoments, alones_keep, one_keeps, visit_keeps}
 
@@ -90,6 +90,7 @@ added_stays : (past : List JournalItem) (seats then_seats : List SeatState) (l :
 added_stays past seats then_seats l stay a = record {
   added = a.added;
   are = a.are;
+  closings = a.closings;
   times = each_weaker (IsMoment seats) (IsMoment then_seats) stay (times a.added) a.times;
   made = each_weaker (λ d. IsMoment seats d.made) (λ d. IsMoment then_seats d.made) (λ d m. stay d.made m) l.issued a.made;
 }
@@ -105,6 +106,8 @@ module _ (past : List JournalItem) (seats : List SeatState) (l m : LedgerCell) (
   added_more a adds = record {
     added = a.added ++ adds.items;
     are = adds.are ∙ ap (λ (is : List JournalItem). is ++ adds.items) a.are ∙ append_assoc past a.added adds.items;
+    closings = subst (λ (size : ℕ). Each (FitsBlock size) (a.added ++ adds.items)) (sym adds.block_size)
+        (each_append (FitsBlock l.block_size) a.added adds.items a.closings adds.closings);
     times = subst (Each (IsMoment seats_then)) (sym (times_append a.added adds.items))
         (each_append (IsMoment seats_then) (times a.added) (times adds.items) a.times (each_weaker (λ time. In time (moments_of t)) (IsMoment seats_then) of_seat (times adds.items) adds.times));
     made = subst (Each (λ d. IsMoment seats_then d.made)) (sym adds.issued)
@@ -115,6 +118,8 @@ moments_later : (s t : SeatState) (l m : LedgerCell) → KeepsMoments s t → Ad
 moments_later s t l m keeps a = record {
   items = a.items;
   are = a.are;
+  block_size = a.block_size;
+  closings = a.closings;
   times = each_weaker (λ time. In time (moments_of s)) (λ time. In time (moments_of t)) keeps.keeps (times a.items) a.times;
   digests = a.digests;
   issued = a.issued;

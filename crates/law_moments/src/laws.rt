@@ -1,4 +1,4 @@
-//! What steps make of the moments of seats.
+//! What steps add to a journal.
 
 ghost use Rattle.std.specs.Prelude.{◌≡◌, List};
 ghost use mathlib.Core.Option.{some};
@@ -12,7 +12,8 @@ ghost use Rattle.law_moments.specs.AddedInTime.{AddedInTime};
 
 /// Where all that is new in a journal has moments of some seats, it has moments of what steps make of these seats:
 /// of the items behind those from which the journal goes on, and of all digests that were issued. So no moment of
-/// any other seat is needed for them.
+/// any other seat is needed for them. And where each new closing is at most the block size, it stays so, whatever the
+/// closings before.
 pub fn new_items_have_moments_of_seats()
     ensures step { (v : Server) (past : List JournalItem) (cells then_cells : List Cell)
         (seats then_seats : List SeatState) → Step v cells seats then_cells then_seats

@@ -1,4 +1,4 @@
-//! That what is new in a journal has moments of seats.
+//! That what is new in a journal has moments of seats, and blocks of at most the block size.
 #![tactic(auto)]
 
 mod laws;

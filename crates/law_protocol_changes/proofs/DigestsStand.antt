@@ -166,7 +166,6 @@ module _ (v : Server) (cells : List Cell) (seats : List SeatState) {history : Hi
       legal = l.legal;
       chain = l.chain;
       digests = each_append (IsOfCell v c1) ledger.issued (g ∷ []) (each_weaker (IsOfCell v ledger) (IsOfCell v c1) of_cell ledger.issued l.digests) (record { closed = (let b = blocks_are v ledger l in omega arith); is = is }, tt);
-      closings = l.closings;
       some_size = l.some_size;
       most_size = l.most_size;
     }

@@ -201,7 +201,7 @@ module _ (v : Server) (cells : List Cell) (seats : List SeatState) {history : Hi
     of_cell g e = record { closed = e.closed; is = e.is }
 
     legal : LedgerIsLegal v (drawn ledger)
-    legal = let l = st.ledger_is_legal in record { legal = l.legal; chain = l.chain; digests = each_weaker (IsOfCell v ledger) (IsOfCell v (drawn ledger)) of_cell ledger.issued l.digests; closings = l.closings; some_size = l.some_size; most_size = l.most_size }
+    legal = let l = st.ledger_is_legal in record { legal = l.legal; chain = l.chain; digests = each_weaker (IsOfCell v ledger) (IsOfCell v (drawn ledger)) of_cell ledger.issued l.digests; some_size = l.some_size; most_size = l.most_size }
 
     -- ---- the history
 

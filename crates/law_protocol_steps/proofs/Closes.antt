@@ -18,13 +18,13 @@ use Rattle.spec_history.specs.Acts.{SessionAct, Act, closes, of, marked}
 use Rattle.spec_history.specs.Sessions.{SessionState, transcript_of}
 use Rattle.spec_history.specs.Worlds.{World, first, step, run}
 use Rattle.spec_history.proofs.Cuts.{run_append, of_append}
-use Rattle.spec_history.proofs.Trace.{each_append, each_weaker, count_append}
+use Rattle.spec_history.proofs.Trace.{each_weaker, count_append}
 use Rattle.spec_history.proofs.Grows.{blocks_append, digest_stays, times_append}
 use Rattle.spec_protocol.specs.Server.{Server}
 use Rattle.spec_protocol.specs.Cells.{LedgerCell, Cell, Ledger, ledger_at, pending_in}
 use Rattle.spec_protocol.specs.Contents.{Contents, Known, contents, known, has_id}
 use Rattle.spec_protocol.specs.Seats.{KeptImage, Written, Role, idle, session, builder, SeatState}
-use Rattle.spec_protocol.specs.LedgerIsLegal.{FitsBlock, IsOfCell, LedgerIsLegal}
+use Rattle.spec_protocol.specs.LedgerIsLegal.{IsOfCell, LedgerIsLegal}
 use Rattle.spec_protocol.specs.LedgerVisits.{closed_by, next_block, Closes}
 use Rattle.spec_protocol.specs.Parts.{Numbers, all_of, IsNow, IsOver, WasOver, Past, Now}
 use Rattle.spec_protocol.specs.TranscriptsAgree.{IsMoment, AreImages, ImagesOfPast, ImagesNow, MarksWithin, SeatAgrees, TranscriptsAgree}
@@ -82,7 +82,6 @@ module _ (v : Server) (c : LedgerCell) (n : ℕ) (least : 1 ≤ n) (fits : n ≤
     legal = legal_more v.reads c.items (Close n) l.legal (least, (let a = l.most_size in omega arith), (let a = pending_are v c l in omega arith));
     chain = ap (of_journal.closes v.hash n) l.chain ∙ sym (one_more v.hash v.reads c.items (Close n));
     digests = each_weaker (IsOfCell v c) (IsOfCell v d) digest_of c.issued l.digests;
-    closings = each_append (FitsBlock c.block_size) c.items (Close n ∷ []) l.closings (fits, tt);
     some_size = l.some_size;
     most_size = l.most_size;
   }

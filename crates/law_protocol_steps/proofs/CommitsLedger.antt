@@ -16,7 +16,7 @@ use Rattle.spec_model.specs.Journals.{Line, IsNext, serial}
 use Rattle.spec_history.specs.Lists.{Text, In}
 use Rattle.spec_history.specs.Transactions.{unfixed}
 use Rattle.spec_history.specs.Digests.{Digest}
-use Rattle.spec_history.proofs.Trace.{each_append, each_weaker}
+use Rattle.spec_history.proofs.Trace.{each_weaker}
 use Rattle.spec_history.proofs.Grows.{blocks_append, digest_stays}
 use Rattle.spec_protocol.specs.Server.{Server}
 use Rattle.spec_protocol.specs.Cells.{LedgerCell, Cell}
@@ -27,7 +27,7 @@ use Rattle.spec_model.specs.Touched.{touched}
 use Rattle.spec_protocol.specs.EventsIn.{events_in}
 use Rattle.spec_protocol.specs.OpenScripts.{counted_in, counted, events_counted, IsOfItsScript}
 use Rattle.spec_protocol.specs.TreesAreOfEvents.{HasItsTrees}
-use Rattle.spec_protocol.specs.LedgerIsLegal.{FitsBlock, IsOfCell, LedgerIsLegal}
+use Rattle.spec_protocol.specs.LedgerIsLegal.{IsOfCell, LedgerIsLegal}
 use Rattle.spec_protocol.specs.StandTogether.{History, Stands}
 use Rattle.spec_protocol.specs.Moves.{InStatement}
 use Rattle.spec_protocol.specs.LedgerVisits.{Commits, is_empty, is_read_only, with_item, entry_of_trees, root_of_tree, with_leaves}
@@ -62,7 +62,6 @@ module _ (v : Server) (c : LedgerCell) (id time : ℕ) (name : Text) (explicit :
     legal = legal_more v.reads c.items item l.legal n;
     chain = ap₂ of_journal.commits is l.chain ∙ sym (one_more v.hash v.reads c.items item);
     digests = each_weaker (IsOfCell v c) (IsOfCell v d) digest_of c.issued l.digests;
-    closings = each_append (FitsBlock c.block_size) c.items (item ∷ []) l.closings (tt, tt);
     some_size = l.some_size;
     most_size = l.most_size;
   }

@@ -15,6 +15,7 @@ pub none_added : {v : Server} {database : Text} {size : ℕ} {past : Past} (star
 none_added {past = past} start = record {
   added = [];
   are = sym start.begins.stands.transcripts_agree.items ∙ sym start.begins.over.items ∙ ap (λ (p : Past). p.items) start.of_past ∙ sym (append-nil past.items);
+  closings = tt;
   times = tt;
   made = subst (λ (gs : List Digest). Each (λ d. IsMoment (first_seat start.begins.cells ∷ []) d.made) gs) (start.begins.over.issued ∙ start.begins.stands.transcripts_agree.issued) tt;
 }

@@ -14,7 +14,6 @@ use Rattle.spec_ledger.specs.Ledger.{ledger_from}
 use Rattle.spec_protocol.specs.AllowedVisit.{first_seat}
 use Rattle.spec_protocol.specs.Cells.{first_cells}
 use Rattle.spec_protocol.specs.JournalForms.{HaveForms}
-use Rattle.spec_protocol.specs.LedgerIsLegal.{FitsBlock}
 use Rattle.spec_protocol.specs.SeatNames.{names_of}
 use Rattle.spec_protocol.specs.Seats.{SeatState}
 use Rattle.spec_protocol.specs.Server.{Server}
@@ -28,7 +27,7 @@ use Rattle.law_sequential.specs.RunStart.{RunStart}
 -- the laws that are used
 abbrev pub ServerStarts : Type 0
 ServerStarts = (v : Server) (c : Words) (database : Text) (size : ℕ) → 1 ≤ size → size ≤ max_block → (J : List JournalItem) (count : ℕ) → (1 ≤ count → AreWords v.reads c) → IsLegal v.reads J
-    → Each (CanBeRetold v.reads count) J → Each (FitsBlock size) J → unclosed J < size
+    → Each (CanBeRetold v.reads count) J → unclosed J < size
     → (s : Start v database size) × (s.past ≡ past_of J count) × (s.cells ≡ continued_cells v database size J count) × (s.seat ≡ past_seat v c J count)
 
 abbrev pub KeepsForms : Type 0
@@ -52,10 +51,10 @@ begun v database size past s seat of_past is names moments = record {
 
 module _ (starts : ServerStarts) where
   pub with_a_journal : KeepsForms → (v : Server) (c : Words) (database : Text) (size : ℕ) → 1 ≤ size → size ≤ max_block → (J : List JournalItem) (count : ℕ) → (1 ≤ count → AreWords v.reads c) → IsLegal v.reads J
-      → Each (CanBeRetold v.reads count) J → Each (FitsBlock size) J → unclosed J < size → AllByRecursion ItemRules J → is_session_name c.name ≡ true → is_database_name database ≡ true → suc count ≤ 2 ^ 63
+      → Each (CanBeRetold v.reads count) J → unclosed J < size → AllByRecursion ItemRules J → is_session_name c.name ≡ true → is_database_name database ≡ true → suc count ≤ 2 ^ 63
       → (s : RunStart v database size (past_of J count)) × (s.begins.cells ≡ continued_cells v database size J count)
-  with_a_journal keeps v c database size some most J count words legal may fits few rules nobody named ids =
-      let s = starts v c database size some most J count words legal may fits few in
+  with_a_journal keeps v c database size some most J count words legal may few rules nobody named ids =
+      let s = starts v c database size some most J count words legal may few in
       let f = keeps v c database size J count words legal may rules nobody named ids in
       (begun v database size (past_of J count) s.0 (past_seat v c J count) s.1 s.3 (f.names 0 (past_seat v c J count) refl) (f.moments 0 (past_seat v c J count) refl), s.2)
 
@@ -71,5 +70,5 @@ module _ (starts : ServerStarts) where
   pub with_none : (v : Server) (database : Text) (size : ℕ) → 1 ≤ size → size ≤ max_block → (s : RunStart v database size no_past) × (s.begins.cells ≡ first_cells database size)
   with_none v database size some most =
       let few : 0 - 0 < size = omega (arith, some) in
-      let s = starts v no_words database size some most [] 0 (λ l. absurd (omega (arith, l))) tt tt tt few in
+      let s = starts v no_words database size some most [] 0 (λ l. absurd (omega (arith, l))) tt tt few in
       (begun v database size no_past s.0 (past_seat v no_words [] 0) s.1 s.3 tt tt, s.2 ∙ cells_are v database size)

@@ -32,7 +32,6 @@ ghost use Rattle.spec_protocol.specs.AllowedVisit.{AllowedVisit, OutsAreIn, firs
 ghost use Rattle.spec_protocol.specs.Moves.{sits};
 ghost use Rattle.spec_protocol.specs.OneByOne.{IsOneAlone};
 ghost use Rattle.spec_protocol.specs.InactiveExcept.{IsInactive, InactiveExcept};
-ghost use Rattle.spec_protocol.specs.LedgerIsLegal.{FitsBlock};
 ghost use Rattle.spec_protocol.specs.Reordered.{NamesApart};
 ghost use Rattle.spec_protocol.specs.Seats.{KeptImage, SeatState, Written, split};
 ghost use Rattle.spec_protocol.specs.Server.{Server};
@@ -57,13 +56,13 @@ use law_continued::{a_journal_that_goes_on_keeps_its_forms, a_server_starts};
 use law_going_on::transcripts_agree_behind_the_past;
 use law_moments::new_items_have_moments_of_seats;
 
-/// A run begins behind the past that a legal journal is, if its transactions can be told again, if in its blocks are
-/// no more entries than a block takes, if fewer are in none, and if it keeps the side rules of its items: with the
-/// cells to which the journal leads. And it begins behind no past, with the first cells.
+/// A run begins behind the past that a legal journal is, if its transactions can be told again, if fewer entries than
+/// a block takes are in no block, and if it keeps the side rules of its items: with the cells to which the journal
+/// leads. And it begins behind no past, with the first cells.
 pub fn runs_begin()
     ensures with_a_journal { (v : Server) (c : Words) (database : Text) (size : ℕ) → 1 ≤ size → size ≤ max_block
         → (J : List JournalItem) (count : ℕ) → (1 ≤ count → AreWords v.reads c) → journals.IsLegal v.reads J
-        → Each (CanBeRetold v.reads count) J → Each (FitsBlock size) J → unclosed J < size
+        → Each (CanBeRetold v.reads count) J → unclosed J < size
         → AllByRecursion ItemRules J → is_session_name c.name ≡ true
         → is_database_name database ≡ true → suc count ≤ 2 ^ 63
         → (s : RunStart v database size (past_of J count))

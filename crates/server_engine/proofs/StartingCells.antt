@@ -11,7 +11,6 @@ use Rattle.spec_model.specs.Script.{Reading}
 use Rattle.spec_history.specs.Lists.{Text, Each}
 use Rattle.spec_syntax.specs.Text.{statement_of}
 use Rattle.spec_protocol.specs.Cells.{first_cells}
-use Rattle.spec_protocol.specs.LedgerIsLegal.{FitsBlock}
 use Rattle.spec_protocol.specs.Server.{Server}
 use Rattle.spec_protocol.specs.Serves.{Serves}
 use Rattle.law_behind.specs.Past.{no_past, unclosed}
@@ -30,7 +29,7 @@ BeginsWithNone = (v : Server) (database : Text) (size : ℕ) → 1 ≤ size → 
 
 abbrev pub BeginsWithJournal : Type 0
 BeginsWithJournal = (v : Server) (c : Words) (database : Text) (size : ℕ) → 1 ≤ size → size ≤ max_block → (J : List JournalItem) (count : ℕ) → (1 ≤ count → AreWords v.reads c) → IsLegal v.reads J
-    → Each (CanBeRetold v.reads count) J → Each (FitsBlock size) J → unclosed J < size → AllByRecursion ItemRules J → is_session_name c.name ≡ true → is_database_name database ≡ true → suc count ≤ 2 ^ 63
+    → Each (CanBeRetold v.reads count) J → unclosed J < size → AllByRecursion ItemRules J → is_session_name c.name ≡ true → is_database_name database ≡ true → suc count ≤ 2 ^ 63
     → (s : RunStart v database size (past_of J count)) × (s.begins.cells ≡ continued_cells v database size J count)
 
 pub starts_first : BeginsWithNone → (h : List ℕ → List ℕ) (database : Text) (size : ℕ) → 1 ≤ size → size ≤ max_block → StartsBehind h database size no_past (first_kept database size)
@@ -40,10 +39,10 @@ starts_first begins h database size some most = record {
 }
 
 pub starts_later : BeginsWithJournal → (h : List ℕ → List ℕ) (c : Words) (database : Text) (size : ℕ) → 1 ≤ size → size ≤ max_block → (J : List JournalItem) (count : ℕ) → (1 ≤ count → AreWords statement_of c) → IsLegal statement_of J
-    → Each (CanBeRetold statement_of count) J → Each (FitsBlock size) J → unclosed J < size → AllByRecursion ItemRules J → is_session_name c.name ≡ true → is_database_name database ≡ true → suc count ≤ 2 ^ 63
+    → Each (CanBeRetold statement_of count) J → unclosed J < size → AllByRecursion ItemRules J → is_session_name c.name ≡ true → is_database_name database ≡ true → suc count ≤ 2 ^ 63
     → (cells : List KeptCell) → Each (Keeps h) cells → ((v : Server) → Serves h statement_of v → cells_seen cells ≡ continued_cells v database size J count)
     → StartsBehind h database size (past_of J count) cells
-starts_later begins h c database size some most J count words legal may fits few rules nobody named ids cells keep are = record {
+starts_later begins h c database size some most J count words legal may few rules nobody named ids cells keep are = record {
   keep = keep;
   starts = λ v serves.
       let read = sym serves.reading in
@@ -51,6 +50,6 @@ starts_later begins h c database size some most J count words legal may fits few
       (λ l. subst (λ (reads : Reading). AreWords reads c) read (words l))
       (subst (λ (reads : Reading). IsLegal reads J) read legal)
       (subst (λ (reads : Reading). Each (CanBeRetold reads count) J) read may)
-      fits few rules nobody named ids in
+      few rules nobody named ids in
       (s.0, s.1 ∙ sym (are v serves));
 }

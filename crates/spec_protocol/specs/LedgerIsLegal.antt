@@ -1,7 +1,5 @@
 -- The ledger is legal.
-use Rattle.std.specs.Prelude.{ℕ, ◌≡◌, ◌<◌, ◌≤◌}
-use Rattle.sql_types.specs.declared.journal.JournalItem.{JournalItem}
-use Rattle.sql_types.specs.declared.journal.JournalItem.TheVariants.{Tx, Close}
+use Rattle.std.specs.Prelude.{◌≡◌, ◌<◌, ◌≤◌}
 use Rattle.spec_model.specs.Limits.{max_block}
 use Rattle.spec_model.specs.Journals.{IsLegal}
 use Rattle.spec_history.specs.Lists.{Each}
@@ -10,11 +8,6 @@ use Rattle.spec_history.specs.Digests.{Digest, IsDigest}
 use Rattle.spec_protocol.specs.Server.{Server}
 use Rattle.spec_protocol.specs.Cells.{LedgerCell}
 use Rattle.law_blocks.specs.Ledger.{ledger_of}
-
--- a closing is at most this block size
-abbrev pub FitsBlock : ℕ → JournalItem → Type 0
-FitsBlock size (Tx id session time explicit script) = Unit {0}
-FitsBlock size (Close k) = k ≤ size
 
 -- a digest of a closed block of this cell's journal
 pub record IsOfCell (v : Server) (cell : LedgerCell) (d : Digest) : Type 0 where
@@ -27,7 +20,6 @@ pub record LedgerIsLegal (v : Server) (cell : LedgerCell) : Type 0 where
   -- and its entries, blocks, pending list and digests are those of the journal
   pub chain : cell.chain ≡ ledger_of v.hash v.reads cell.items
   pub digests : Each (IsOfCell v cell) cell.issued
-  -- each closing of the journal is at most this cell's block size, which is one that there may be
-  pub closings : Each (FitsBlock cell.block_size) cell.items
+  -- the block size is one that there may be
   pub some_size : 1 ≤ cell.block_size
   pub most_size : cell.block_size ≤ max_block
