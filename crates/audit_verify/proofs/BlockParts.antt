@@ -18,7 +18,7 @@ use Rattle.spec_verify.specs.Blocks.{block_fault, block_holds, entries_before, e
 use Rattle.spec_verify.specs.First.{first_from, unless}
 use Rattle.audit_definitions.proofs.Walks.{first_next}
 use Rattle.audit_verify.specs.BlockParts.{faulty_block}
-use Rattle.audit_verify.proofs.FirstParts.{found_in_both as in_both_parts, whole_part}
+use Rattle.audit_roots.proofs.FirstParts.{found_in_both as in_both_parts, whole_part}
 
 neither : (p : Bool) → (p && false) ≡ false
 neither true = refl

@@ -7,15 +7,18 @@ use Rattle.sql_types.specs.declared.image.Image.{Image}
 use Rattle.format_image.specs.ImageBytes.{IsImage}
 use Rattle.spec_verify.specs.Entries.{id_fault}
 use Rattle.spec_verify.specs.Indexes.{first_table}
-use Rattle.audit_verify.specs.declared.shown.ImageTable.{ImageTable}
+use Rattle.audit_roots.specs.declared.shown.ImageTable.{ImageTable}
 use Rattle.audit_verify.specs.Groups.{index_in}
 use Rattle.audit_verify.specs.Indexes.{first_among, HasFewIndexes}
 use Rattle.audit_verify.specs.Order.{AreStarted}
-use Rattle.audit_verify.specs.ImageTable.{def_of, rows_of, AreImageTables}
+use Rattle.audit_roots.specs.ImageTable.{def_of, rows_of, AreImageTables}
 use Rattle.audit_verify.proofs.Started.{are_started}
-use Rattle.audit_verify.proofs.Tables.{in_order, have_few_indexes}
+use Rattle.audit_verify.proofs.TableIndexes.{in_order, have_few_indexes}
 
-module _ (ts group : List ImageTable) (i : Image) (from count : ℕ) (shown : AreImageTables ts i) (group_is : group ≡ take count (drop from ts)) where
+module _ (ts seen group : List ImageTable) (i : Image) (from count : ℕ) (shown : AreImageTables ts i) (same : seen ≡ ts) (taken : group ≡ take count (drop from seen)) where
+  group_is : group ≡ take count (drop from ts)
+  group_is = taken ∙ ap (λ (l : List ImageTable). take count (drop from l)) same
+
   pub group_started : id_fault i ≡ None → All (AreStarted i.entries) group
   group_started none =
       subst (All (AreStarted i.entries)) (sym group_is) (All-take (AreStarted i.entries) count (drop from ts) (All-drop (AreStarted i.entries) from ts (are_started ts i shown none)))

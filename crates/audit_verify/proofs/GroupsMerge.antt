@@ -1,5 +1,5 @@
 -- What two groups of tables find that stand side by side, and what they find together.
-use Rattle.std.proofs.Common.{◌≡◌, ◌+◌, subst, ℕ, zero, suc, Bool, true, false, cond, List, [], ◌∷◌, ◌++◌, length, flat_map, take, drop, refl, sym, ap, ap₂, ◌∙◌, arith, Option, Some, None}
+use Rattle.std.proofs.Common.{◌≡◌, ◌+◌, subst, ℕ, zero, suc, Bool, true, false, cond, List, [], ◌∷◌, length, flat_map, take, drop, refl, sym, ap, ap₂, ◌∙◌, arith, Option, Some, None}
 use Rattle.std.specs.Ordering.{nat_cmp, is_gt}
 use Rattle.std.proofs.lemmas.List.{drop-drop, length-map}
 use Rattle.std.proofs.lemmas.List.Concat.{flat_map-append}
@@ -18,60 +18,40 @@ use Rattle.spec_verify.specs.Indexes.{first_table, index_fault, table_fault}
 use Rattle.spec_verify.specs.Versions.{bad_versions, rows_of_columns, version_fault}
 use Rattle.spec_verify.proofs.Leasts.{least_split}
 use Rattle.spec_verify.proofs.ToldEntries.{table_event_total}
-use Rattle.audit_verify.specs.declared.groups.Fault.{Fault}
+use Rattle.audit_roots.specs.declared.groups.Fault.{Fault}
 use Rattle.audit_verify.specs.declared.groups.GroupFaults.{GroupFaults}
-use Rattle.audit_verify.specs.declared.shown.ImageTable.{ImageTable}
-use Rattle.audit_verify.specs.Groups.{AreFaults, event_at, fault_place, group_of, if_none, index_in, left_over, lesser_version, merged, version_in, wrong_root}
-use Rattle.audit_verify.specs.ImageTable.{def_of, rows_of, table_of, AreImageTables}
-use Rattle.audit_verify.proofs.MergedFaults.{fault_is_merged, groups_merge}
-use Rattle.audit_verify.proofs.Tables.{are_tables}
+use Rattle.audit_roots.specs.declared.shown.ImageTable.{ImageTable}
+use Rattle.audit_verify.specs.Groups.{AreFaults, event_at, if_none, index_in, lesser_version, version_in}
+use Rattle.audit_roots.specs.Groups.{fault_place, group_of, left_over, merged, wrong_root}
+use Rattle.audit_roots.specs.ImageTable.{def_of, rows_of, table_of, AreImageTables}
+use Rattle.audit_roots.proofs.FirstParts.{or_else_assoc}
+use Rattle.audit_roots.proofs.MergedFaults.{fault_is_merged, groups_merge}
+use Rattle.audit_roots.proofs.Parts.{empty, side_by_side, take_whole}
+use Rattle.audit_roots.proofs.Tables.{are_tables}
 
 -- ---- side by side
-
-empty : {A : Type 0} (n : ℕ) → take {A = A} n [] ≡ []
-empty zero = refl
-empty (suc n) = refl
-
-taken : {A : Type 0} (a b : ℕ) (xs : List A) → take (a + b) xs ≡ take a xs ++ take b (drop a xs)
-taken zero b xs = let none : 0 + b ≡ b = omega arith in ap (λ n. take n xs) none
-taken (suc a) b [] = empty (suc a + b) ∙ sym (empty b)
-taken (suc a) b (x ∷ xs) =
-    let one : suc a + b ≡ suc (a + b) = omega arith in
-    ap (λ n. take n (x ∷ xs)) one ∙ ap (λ l. x ∷ l) (taken a b xs)
 
 -- the event that the place of an event names
 named : (e : Option TableEvent) → event_at (event_place e) ≡ e
 named None = refl
 named (Some e) = refl
 
-module _ (from a b : ℕ) where
-  pub side_by_side : {A : Type 0} (xs : List A) → take (a + b) (drop from xs) ≡ take a (drop from xs) ++ take b (drop (from + a) xs)
-  side_by_side xs = taken a b (drop from xs) ∙ ap (λ l. take a (drop from xs) ++ take b l) (drop-drop a from xs)
+module _ (from a b : ℕ) (i : Image) where
+  pub roots_together : (h : List ℕ → List ℕ)
+      → wrong_root h (group_of from (a + b) i) i.entries ≡ lesser_of (found_cmp nat_cmp) (wrong_root h (group_of from a i) i.entries) (wrong_root h (group_of (from + a) b i) i.entries)
+  roots_together h =
+      ap (λ (ts : Tables). wrong_root h ts i.entries) (side_by_side from a b (tables_in i))
+      ∙ groups_merge h (group_of from a i) (group_of (from + a) b i) i.entries
 
-  module _ (i : Image) where
-    pub roots_together : (h : List ℕ → List ℕ)
-        → wrong_root h (group_of from (a + b) i) i.entries ≡ lesser_of (found_cmp nat_cmp) (wrong_root h (group_of from a i) i.entries) (wrong_root h (group_of (from + a) b i) i.entries)
-    roots_together h =
-        ap (λ (ts : Tables). wrong_root h ts i.entries) (side_by_side (tables_in i))
-        ∙ groups_merge h (group_of from a i) (group_of (from + a) b i) i.entries
-
-    pub versions_together : version_in i.entries (rows_of_columns i.tables) (group_of from (a + b) i) ≡ lesser_version (version_in i.entries (rows_of_columns i.tables) (group_of from a i)) (version_in i.entries (rows_of_columns i.tables) (group_of (from + a) b i))
-    versions_together =
-        let bad = λ (ts : Tables). flat_map (bad_versions i.entries (rows_of_columns i.tables)) ts in
-        ap (version_in i.entries (rows_of_columns i.tables)) (side_by_side (tables_in i))
-        ∙ ap least_event (flat_map-append (bad_versions i.entries (rows_of_columns i.tables)) (group_of from a i) (group_of (from + a) b i))
-        ∙ ap event_place (least_split table_event_cmp table_event_total (bad (group_of from a i)) (bad (group_of (from + a) b i)))
-        ∙ ap₂ (λ (x y : Option TableEvent). event_place (lesser_of table_event_cmp x y)) (sym (named (least table_event_cmp (bad (group_of from a i))))) (sym (named (least table_event_cmp (bad (group_of (from + a) b i)))))
-
-pub take_whole : {A : Type 0} (xs : List A) → take (length xs) xs ≡ xs
-take_whole [] = refl
-take_whole (x ∷ xs) = ap (λ l. x ∷ l) (take_whole xs)
+  pub versions_together : version_in i.entries (rows_of_columns i.tables) (group_of from (a + b) i) ≡ lesser_version (version_in i.entries (rows_of_columns i.tables) (group_of from a i)) (version_in i.entries (rows_of_columns i.tables) (group_of (from + a) b i))
+  versions_together =
+      let bad = λ (ts : Tables). flat_map (bad_versions i.entries (rows_of_columns i.tables)) ts in
+      ap (version_in i.entries (rows_of_columns i.tables)) (side_by_side from a b (tables_in i))
+      ∙ ap least_event (flat_map-append (bad_versions i.entries (rows_of_columns i.tables)) (group_of from a i) (group_of (from + a) b i))
+      ∙ ap event_place (least_split table_event_cmp table_event_total (bad (group_of from a i)) (bad (group_of (from + a) b i)))
+      ∙ ap₂ (λ (x y : Option TableEvent). event_place (lesser_of table_event_cmp x y)) (sym (named (least table_event_cmp (bad (group_of from a i))))) (sym (named (least table_event_cmp (bad (group_of (from + a) b i)))))
 
 -- ---- indexes
-
-pub or_else_assoc : {B : Type 0} (o p q : Option B) → or_else o (or_else p q) ≡ or_else (or_else o p) q
-or_else_assoc None p q = refl
-or_else_assoc (Some x) p q = refl
 
 no_defs : (rs : List TableRows) → first_table [] rs ≡ None
 no_defs [] = refl

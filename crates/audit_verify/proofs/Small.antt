@@ -1,7 +1,7 @@
 -- Where each version fits its table, the rows of the system's tables are about tables whose numbers are small.
 use Rattle.std.proofs.Common.{◌≡◌, ◌^◌, arith, refl, subst, ℤ, true, List, [], ◌∷◌, ◌++◌, map, flat_map, Option, Some, None}
 use Rattle.std.specs.Prelude.{FitsSigned, IfSome, MatchOption, pos, negsuc, ◌<◌}
-use Rattle.std.proofs.lemmas.Bool.{ltb-true}
+use Rattle.std.proofs.lemmas.Bool.{and_parts, ltb-true}
 use Rattle.std.proofs.lemmas.List.{map-append}
 use Rattle.std.specs.Int.{w64}
 use Rattle.std.specs.List.{AllByRecursion}
@@ -20,7 +20,6 @@ use Rattle.spec_model.specs.Rows.{Row, value_or_null}
 use Rattle.spec_model.specs.SystemTables.{tables_def, columns_def}
 use Rattle.format_image.specs.ImageBytes.{IsImage, AreTables}
 use Rattle.format_image.specs.Tables.{table_in, tables_with, defs_in}
-use Rattle.format_event.proofs.TypeLaws.{and_parts}
 use Rattle.law_catalog_rows.specs.Differs.{table_of}
 use Rattle.spec_verify.specs.Sentences.{VersionHolds, TableVersion, versions_of_image}
 use Rattle.spec_verify.specs.Versions.{has_columns, version_fault}

@@ -15,10 +15,10 @@ use Rattle.spec_verify.proofs.Leasts.{least_is, IsLeast}
 use Rattle.spec_verify.proofs.ToldEntries.{table_event_total}
 use Rattle.spec_verify.specs.Entries.{TableEvent, table_event_cmp, event_place, has_id, events_in, strangers, repeated_id, least_event, id_fault}
 use Rattle.law_catalog_rows.specs.Least.{least}
-use Rattle.audit_verify.specs.declared.shown.ImageTable.{ImageTable}
+use Rattle.audit_roots.specs.declared.shown.ImageTable.{ImageTable}
 use Rattle.audit_verify.specs.Order.{IsStarted, AreStarted}
-use Rattle.audit_verify.specs.ImageTable.{rows_of, table_of, AreImageTables}
-use Rattle.audit_verify.proofs.Tables.{are_tables}
+use Rattle.audit_roots.specs.ImageTable.{rows_of, table_of, AreImageTables}
+use Rattle.audit_roots.proofs.Tables.{are_tables}
 
 second_none : {A : Type 0} (a b : Option A) → or_else a b ≡ None → b ≡ None
 second_none None b e = e

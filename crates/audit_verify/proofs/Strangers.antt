@@ -11,10 +11,10 @@ use Rattle.spec_model.specs.Rows.{EventId}
 use Rattle.law_catalog_rows.specs.Least.{lesser, least_from}
 use Rattle.format_image.specs.Tables.{tables_in}
 use Rattle.spec_verify.specs.Entries.{TableEvent, table_event_cmp, has_id, events_in, strangers}
-use Rattle.audit_verify.specs.declared.shown.ImageTable.{ImageTable}
+use Rattle.audit_roots.specs.declared.shown.ImageTable.{ImageTable}
 use Rattle.audit_verify.specs.Ids.{is_stranger, strangers_of, strangers_in}
-use Rattle.audit_verify.specs.ImageTable.{def_of, rows_of, table_of, AreImageTables}
-use Rattle.audit_verify.proofs.Tables.{are_tables}
+use Rattle.audit_roots.specs.ImageTable.{def_of, rows_of, table_of, AreImageTables}
+use Rattle.audit_roots.proofs.Tables.{are_tables}
 use Rattle.audit_definitions.proofs.Walks.{filter_parts, map_parts, over_map, one_tested, least_append}
 
 abbrev as_event : Event → TableEvent

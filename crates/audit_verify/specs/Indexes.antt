@@ -5,8 +5,8 @@ use Rattle.spec_model.specs.Lists.{or_else}
 use Rattle.format_image.specs.Rows.{Stored, stored_at}
 use Rattle.spec_verify.specs.declared.place.Place.{Place}
 use Rattle.spec_verify.specs.Indexes.{table_fault}
-use Rattle.audit_verify.specs.declared.shown.ImageTable.{ImageTable}
-use Rattle.audit_verify.specs.ImageTable.{def_of, rows_of}
+use Rattle.audit_roots.specs.declared.shown.ImageTable.{ImageTable}
+use Rattle.audit_roots.specs.ImageTable.{def_of, rows_of}
 
 -- the first of these tables with a fault, and its first
 abbrev pub first_among : List ImageTable → Option Place

@@ -1,14 +1,8 @@
 pub mod BlockParts
 pub mod Entries
-pub mod EventIds
 pub mod Groups
 pub mod Ids
 pub mod Indexes
-pub mod Marks
-pub mod Numbered
 pub mod Order
-pub mod Roots
-pub mod ImageTable
 pub mod Versions
-pub mod WrongRoots
 pub mod Verdict

@@ -15,7 +15,7 @@ use Rattle.audit_verify.specs.declared.order.EarlierVersions.{EarlierVersions}
 use Rattle.audit_verify.specs.declared.order.VersionWithRanks.{VersionWithRanks}
 use Rattle.audit_columns.specs.Positions.{Rank, rank_of}
 use Rattle.audit_columns.specs.Runs as runs
-use Rattle.audit_verify.specs.declared.shown.ImageTable.{ImageTable}
+use Rattle.audit_roots.specs.declared.shown.ImageTable.{ImageTable}
 
 -- some entry is of the transaction that started the version
 abbrev pub IsStarted : List TxEntry → Version → Type 0

@@ -5,11 +5,11 @@ ghost use Rattle.law_catalog_rows.specs.Least.{least, least_from, lesser};
 ghost use Rattle.spec_verify.specs.Entries as spec;
 ghost use Rattle.audit_verify.specs.Entries.{AreFound};
 ghost use Rattle.audit_verify.specs.Ids.{repeated_in, strangers_in, strangers_of};
-ghost use Rattle.audit_verify.specs.ImageTable.{AreImageTables, table_of};
+ghost use Rattle.audit_roots.specs.ImageTable.{AreImageTables, table_of};
 
 use crate::entries::Entries;
 use crate::least::{TableEvent, event_place, lesser};
-use crate::shown::ImageTable;
+use audit_roots::ImageTable;
 use base_types::TableId;
 use format_image::Image;
 use spec_verify::Place;

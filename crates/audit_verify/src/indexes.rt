@@ -12,10 +12,10 @@ ghost use Rattle.spec_model.specs.Rows.{value_or_null};
 ghost use Rattle.sql_value.specs.Order.{value_cmp};
 ghost use Rattle.spec_verify.specs.Indexes as spec;
 ghost use Rattle.audit_verify.specs.Indexes.{first_among, HasFewIndexes, row_at};
-ghost use Rattle.audit_verify.specs.ImageTable.{AreImageTables};
+ghost use Rattle.audit_roots.specs.ImageTable.{AreImageTables};
 
-use crate::shown::ImageTable;
 use audit_columns::same_type;
+use audit_roots::ImageTable;
 use base_types::{Memory, first_of};
 use format_image::{Image, IndexRow};
 use spec_verify::Place;

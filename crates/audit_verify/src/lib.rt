@@ -3,25 +3,18 @@
 
 mod blocks;
 mod entries;
-mod event_ids;
 mod groups;
-mod hashes;
 mod ids;
 mod indexes;
 mod least;
-mod leftover;
-mod marks;
 mod merged;
-mod numbers;
 mod order;
-mod root_workers;
-mod roots;
-mod shown;
 mod verdict;
 mod versions;
 mod workers;
 
-pub use groups::{Fault, GroupFaults, group_faults, root_fault_is_merged, roots_of_groups_merge};
+pub use audit_roots::{Fault, root_fault_is_merged, roots_of_groups_merge};
+pub use groups::{GroupFaults, group_faults};
 pub use spec_verify::{Invariant, Place, Verdict};
 pub use sql_types::HeldDigest;
 pub use verdict::verify_image;

@@ -7,13 +7,13 @@ ghost use Rattle.law_catalog_rows.specs.Least.{least, least_from};
 ghost use Rattle.spec_verify.specs.Entries.{id_fault, table_event_cmp};
 ghost use Rattle.spec_verify.specs.Versions as spec;
 ghost use Rattle.audit_verify.specs.Order.{AreStarted, IsRanked};
-ghost use Rattle.audit_verify.specs.ImageTable.{AreImageTables, table_of};
+ghost use Rattle.audit_roots.specs.ImageTable.{AreImageTables, table_of};
 ghost use Rattle.audit_verify.specs.Versions.{fits_alone, null_among, unfit_among};
 
 use crate::least::{TableEvent, event_place, lesser};
 use crate::order::{VersionWithRanks, least_out_of_order, ranked_versions, sort_in_runs};
-use crate::shown::ImageTable;
 use audit_columns::{ColumnRows, has_columns};
+use audit_roots::ImageTable;
 use base_types::Memory;
 use format_image::Image;
 use spec_verify::Place;

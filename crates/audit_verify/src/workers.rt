@@ -16,14 +16,12 @@ ghost use Rattle.audit_verify.specs.Verdict.{blocks_tried, rows_tried, tables_tr
 
 use crate::blocks::{block_fault_by, chain_fault, digest_fault};
 use crate::entries::Entries;
-use crate::groups::{Fault, GroupFaults, RowFaults, group_faults, group_rows};
+use crate::groups::{GroupFaults, RowFaults, group_faults, group_rows};
 use crate::ids::id_fault;
-use crate::leftover::left_over;
-use crate::merged::{both, root_place};
-use crate::root_workers::group_root_by;
-use crate::shown::shown_tables;
+use crate::merged::both;
 use crate::verdict::verify_image;
 use audit_definitions::definition_fault;
+use audit_roots::{Fault, left_over, root_place, shown_tables, wrong_root_in_group_by};
 use base_merkle::Hash32;
 use base_types::{Memory, TableId};
 use format_image::{Image, TableRows, read_image};
@@ -290,7 +288,7 @@ fn faults_side_by_side<H: Hash32, R: Threads + Sync>(
             requires within { from + count ≤ length image.now.tables }
             ensures { IfOk result (λ root. root ≡ spec.wrong_root (H.digest hasher)
                 (spec.group_of from count image.entry.now) image.entry.now.entries) }
-        { group_root_by(rt, alloc, hasher, image, from, count, workers) },
+        { wrong_root_in_group_by(rt, alloc, hasher, image, from, count, workers) },
         || -> Result<RowFaults, Memory>
             requires image { IsImage image.now }
             requires ids { id_fault_of image.now ≡ None }

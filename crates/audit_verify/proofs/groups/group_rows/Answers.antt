@@ -1,9 +1,8 @@
-use Rattle.std.proofs.Common.{List, ap, take, drop, ◌∙◌}
-use Rattle.audit_verify.specs.declared.shown.ImageTable.{ImageTable}
+use Rattle.std.proofs.Common.{ap, ◌∙◌}
 use Rattle.audit_verify.specs.Groups.{if_none, version_in}
 use Rattle.spec_verify.specs.Versions.{rows_of_columns}
 use Rattle.audit_verify.proofs.GroupParts.{group_started, group_few, group_indexes}
-use Rattle.audit_verify.proofs.WrongRoots.{within_shown, group_tables}
+use Rattle.audit_roots.proofs.WrongRoots.{within_shown, group_tables}
 use Rattle.audit_verify.proofs.groups.group_rows.Goals as goal
 
 pub group_of-group-requires : goal.group_of-group-requires
@@ -11,24 +10,20 @@ group_of-group-requires c = within_shown _ _ c.args.image.now _ c.in_ok-tables.e
 
 pub version_in_group-requires : goal.version_in_group-requires
 version_in_group-requires c =
-    group_started _ _ c.args.image.now c.args.from c.args.count c.in_ok-tables.ensures
-    (c.group_of-group.ensures ∙ ap (λ (l : List ImageTable). take c.args.count (drop c.args.from l)) c.deref-2.ensures.value) c.requires.ids
+    group_started _ _ _ c.args.image.now c.args.from c.args.count c.in_ok-tables.ensures c.deref-2.ensures.value c.group_of-group.ensures c.requires.ids
 
 pub index_in_group-requires : goal.index_in_group-requires
 index_in_group-requires c =
-    group_few _ _ c.args.image.now c.args.from c.args.count c.in_ok-tables.ensures
-    (c.group_of-group.ensures ∙ ap (λ (l : List ImageTable). take c.args.count (drop c.args.from l)) c.deref-2.ensures.value) c.requires.image
+    group_few _ _ _ c.args.image.now c.args.from c.args.count c.in_ok-tables.ensures c.deref-2.ensures.value c.group_of-group.ensures c.requires.image
 
 pub returns-clause-version : goal.returns-clause-version
 returns-clause-version c =
     c.in_ok-version.ensures
     ∙ ap (version_in c.args.image.now.entries (rows_of_columns c.args.image.now.tables))
-    (group_tables _ _ c.args.image.now c.args.from c.args.count c.in_ok-tables.ensures c.requires.image
-    (c.group_of-group.ensures ∙ ap (λ (l : List ImageTable). take c.args.count (drop c.args.from l)) c.deref-2.ensures.value))
+    (group_tables _ _ _ c.args.image.now c.args.from c.args.count c.in_ok-tables.ensures c.requires.image c.deref-2.ensures.value c.group_of-group.ensures)
 
 pub returns-clause-index : goal.returns-clause-index
 returns-clause-index c =
     c.in_ok-index.ensures
     ∙ ap (if_none c.in_ok-version.version)
-    (group_indexes _ _ c.args.image.now c.args.from c.args.count c.in_ok-tables.ensures
-    (c.group_of-group.ensures ∙ ap (λ (l : List ImageTable). take c.args.count (drop c.args.from l)) c.deref-2.ensures.value))
+    (group_indexes _ _ _ c.args.image.now c.args.from c.args.count c.in_ok-tables.ensures c.deref-2.ensures.value c.group_of-group.ensures)

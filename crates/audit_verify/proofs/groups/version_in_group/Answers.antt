@@ -5,9 +5,9 @@ use Rattle.sql_types.specs.declared.entry.TxEntry.{TxEntry}
 use Rattle.sql_types.specs.declared.version.Version.{Version}
 use Rattle.spec_verify.specs.Entries.{table_event_cmp, event_place}
 use Rattle.spec_verify.specs.Versions.{bad_versions, rows_of_columns}
-use Rattle.audit_verify.specs.declared.shown.ImageTable.{ImageTable}
+use Rattle.audit_roots.specs.declared.shown.ImageTable.{ImageTable}
 use Rattle.audit_verify.specs.Order.{AreStarted}
-use Rattle.audit_verify.specs.ImageTable.{table_of}
+use Rattle.audit_roots.specs.ImageTable.{table_of}
 use Rattle.audit_definitions.proofs.Walks.{over_map}
 use Rattle.audit_verify.proofs.groups.version_in_group.Goals as goal
 

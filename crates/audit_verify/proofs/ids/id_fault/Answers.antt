@@ -4,7 +4,7 @@ use Rattle.law_catalog_rows.specs.Least.{least}
 use Rattle.spec_verify.specs.Entries.{table_event_cmp, event_place, least_event, strangers, id_fault}
 use Rattle.spec_model.specs.Lists.{or_else}
 use Rattle.audit_verify.specs.Ids.{repeated_in, strangers_in}
-use Rattle.audit_verify.specs.ImageTable.{table_of}
+use Rattle.audit_roots.specs.ImageTable.{table_of}
 use Rattle.audit_verify.proofs.Strangers.{by_table}
 use Rattle.audit_verify.proofs.ids.id_fault.Goals as goal
 

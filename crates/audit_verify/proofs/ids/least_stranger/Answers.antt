@@ -1,7 +1,7 @@
 use Rattle.spec_verify.specs.Entries.{table_event_cmp}
-use Rattle.audit_verify.specs.declared.shown.ImageTable.{ImageTable}
+use Rattle.audit_roots.specs.declared.shown.ImageTable.{ImageTable}
 use Rattle.audit_verify.specs.Ids.{strangers_in}
-use Rattle.audit_verify.specs.ImageTable.{table_of}
+use Rattle.audit_roots.specs.ImageTable.{table_of}
 use Rattle.audit_definitions.proofs.Walks.{least_next}
 use Rattle.audit_verify.proofs.ids.least_stranger.Goals as goal
 

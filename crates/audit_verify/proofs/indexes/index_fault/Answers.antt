@@ -1,4 +1,4 @@
-use Rattle.audit_verify.proofs.Tables.{first_is, have_few_indexes}
+use Rattle.audit_verify.proofs.TableIndexes.{first_is, have_few_indexes}
 use Rattle.audit_definitions.proofs.Verdicts.{same_ok}
 use Rattle.audit_verify.proofs.indexes.index_fault.Goals as goal
 

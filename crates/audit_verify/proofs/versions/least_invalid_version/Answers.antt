@@ -1,7 +1,7 @@
 use Rattle.spec_verify.specs.Entries.{table_event_cmp}
 use Rattle.spec_verify.specs.Versions.{bad_versions}
-use Rattle.audit_verify.specs.declared.shown.ImageTable.{ImageTable}
-use Rattle.audit_verify.specs.ImageTable.{table_of}
+use Rattle.audit_roots.specs.declared.shown.ImageTable.{ImageTable}
+use Rattle.audit_roots.specs.ImageTable.{table_of}
 use Rattle.audit_verify.specs.Order.{AreStarted}
 use Rattle.audit_definitions.proofs.Walks.{all_at, least_next}
 use Rattle.audit_verify.proofs.versions.least_invalid_version.Goals as goal

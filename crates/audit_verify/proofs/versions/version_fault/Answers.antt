@@ -5,9 +5,9 @@ use Rattle.sql_types.specs.declared.entry.TxEntry.{TxEntry}
 use Rattle.sql_types.specs.declared.version.Version.{Version}
 use Rattle.spec_verify.specs.Entries.{table_event_cmp, event_place}
 use Rattle.spec_verify.specs.Versions.{version_fault, bad_versions}
-use Rattle.audit_verify.specs.declared.shown.ImageTable.{ImageTable}
+use Rattle.audit_roots.specs.declared.shown.ImageTable.{ImageTable}
 use Rattle.audit_verify.specs.Order.{AreStarted}
-use Rattle.audit_verify.specs.ImageTable.{table_of}
+use Rattle.audit_roots.specs.ImageTable.{table_of}
 use Rattle.audit_verify.proofs.Bad.{bad_of_tables}
 use Rattle.audit_verify.proofs.Started.{are_started}
 use Rattle.audit_verify.proofs.versions.version_fault.Goals as goal

@@ -1,8 +1,8 @@
 use Rattle.std.proofs.Common.{map, ap, ap₂, ◌∙◌}
 use Rattle.audit_verify.specs.Groups.{left_over}
-use Rattle.audit_verify.specs.ImageTable.{table_of}
+use Rattle.audit_roots.specs.ImageTable.{table_of}
 use Rattle.audit_definitions.proofs.Verdicts.{same_ok}
-use Rattle.audit_verify.proofs.Tables.{are_tables}
+use Rattle.audit_roots.proofs.Tables.{are_tables}
 use Rattle.audit_verify.proofs.workers.left_in.Goals as goal
 
 pub returns : goal.returns

@@ -1,0 +1,17 @@
+pub mod EntryRoots
+pub mod EventIds
+pub mod FirstParts
+pub mod Grouped
+pub mod Hashed
+pub mod IdsAt
+pub mod InRows
+pub mod LeafOrder
+pub mod LeftParts
+pub mod MergedFaults
+pub mod Owned
+pub mod Parts
+pub mod TableFaults
+pub mod TableRoots
+pub mod Tables
+pub mod Woven
+pub mod WrongRoots

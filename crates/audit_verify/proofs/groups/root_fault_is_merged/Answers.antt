@@ -1,5 +1,0 @@
-use Rattle.audit_verify.proofs.MergedFaults.{fault_is_merged}
-use Rattle.audit_verify.proofs.groups.root_fault_is_merged.Goals as goal
-
-pub returns : goal.returns
-returns c = λ h i is. fault_is_merged h i is

@@ -1,6 +1,0 @@
-use Rattle.std.proofs.Common.{◌≡◌, ◌++◌, drop, filter}
-use Rattle.audit_verify.specs.Marks.{is_end}
-use Rattle.audit_verify.proofs.hashes.ends_of.Given as goal
-
-abbrev pub invariant-loop-mark : goal.invariant-loop-mark
-invariant-loop-mark l = l.ends.items ++ filter is_end (drop l.mark-index l.marks) ≡ filter is_end l.marks

@@ -1,6 +1,0 @@
-use Rattle.std.proofs.Common.{◌≡◌, ◌++◌, drop, filter}
-use Rattle.audit_verify.specs.Marks.{is_start}
-use Rattle.audit_verify.proofs.hashes.starts_of.Given as goal
-
-abbrev pub invariant-loop-mark : goal.invariant-loop-mark
-invariant-loop-mark l = l.starts.items ++ filter is_start (drop l.mark-index l.marks) ≡ filter is_start l.marks
