@@ -11,7 +11,7 @@ use Rattle.spec_history.specs.Meaning.{Meaning}
 use Rattle.spec_history.specs.Transcripts.{Transcript}
 use Rattle.spec_history.proofs.Trace.{each_weaker}
 use Rattle.spec_protocol.specs.Reordered.{moved, Reordered, as_is, swaps, swapped, turned}
-use Rattle.law_protocol.proofs.Reorders.{are_statements, as_long, as_many, at_before, at_then, moved_none, moved_twice, same_sum, statements_at, still_some, turned_is, turned_one, turned_twice, was_moved}
+use Rattle.law_protocol_end.proofs.Reorders.{are_statements, as_long, as_many, at_before, at_then, moved_none, moved_twice, same_sum, statements_at, still_some, turned_is, turned_one, turned_twice, was_moved}
 use Rattle.law_behind.specs.AgreeBehind.{AgreeBehind, IdsAssignedFrom}
 use Rattle.law_behind.specs.Past.{Past, since}
 

@@ -21,8 +21,8 @@ use Rattle.spec_protocol.specs.Parts.{BeganAfter, Numbers, WasOver}
 use Rattle.spec_protocol.specs.Seats.{SeatState}
 use Rattle.spec_protocol.specs.Server.{Server}
 use Rattle.spec_protocol.specs.StandTogether.{History, Stands}
-use Rattle.law_protocol_ledger.proofs.JoinsStand.{rests_none}
-use Rattle.law_protocol.proofs.RanFirst.{WroteSo, ran_before, wrote_so}
+use Rattle.law_protocol_end.proofs.JoinsStand.{rests_none}
+use Rattle.law_protocol_end.proofs.RanFirst.{WroteSo, ran_before, wrote_so}
 use Rattle.law_behind.specs.Forgotten.{IsWithout, without}
 use Rattle.law_behind.specs.Past.{behind}
 use Rattle.law_behind.proofs.Forgotten.{forgotten}

@@ -23,9 +23,9 @@ use Rattle.spec_protocol.specs.Parts.{Past, all_of}
 use Rattle.spec_protocol.specs.Seats.{IsAtRest, SeatState, Written}
 use Rattle.spec_protocol.specs.Server.{Server}
 use Rattle.spec_protocol.specs.StandTogether.{History, Stands}
-use Rattle.law_protocol_ledger.proofs.GoneFree.{gone_rests}
-use Rattle.law_protocol.proofs.BegunNames.{in_their_order}
-use Rattle.law_protocol.proofs.TheEnd as whole_end
+use Rattle.law_protocol_end.proofs.GoneFree.{gone_rests}
+use Rattle.law_protocol_end.proofs.BegunNames.{in_their_order}
+use Rattle.law_protocol_end.proofs.TheEnd as whole_end
 use Rattle.law_behind.specs.AgreeBehind.{AgreeBehind}
 use Rattle.law_behind.specs.Forgotten.{IsWithout, without}
 use Rattle.law_behind.specs.OrderBehind.{HaveOneOrderBehind, StepOrderBehind}

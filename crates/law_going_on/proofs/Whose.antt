@@ -20,8 +20,8 @@ use Rattle.spec_protocol.specs.Parts.{Numbers, Past}
 use Rattle.spec_protocol.specs.Seats.{SeatState, Written}
 use Rattle.spec_protocol.specs.Server.{Server}
 use Rattle.spec_protocol.specs.StandTogether.{History, Stands}
-use Rattle.law_protocol_ledger.proofs.GoneFree.{gone_rests}
-use Rattle.law_protocol_ledger.proofs.JoinsStand.{rests_none}
+use Rattle.law_protocol_end.proofs.GoneFree.{gone_rests}
+use Rattle.law_protocol_end.proofs.JoinsStand.{rests_none}
 use Rattle.law_continued.specs.Continued.{transcripts_from}
 use Rattle.law_continued.specs.Start.{Start}
 

@@ -217,7 +217,7 @@ module _ (database : Text) (size : ℕ) where
       catalog = first_catalog;
       ledger = first_ledger database size;
       are_cells = record { count = refl; has_catalog = refl; has_ledger = refl; has_tables = tables_there database size };
-      ledger_is_legal = record { legal = tt; chain = refl; digests = tt; closings = tt; some_size = some_size; most_size = most_size };
+      ledger_is_legal = record { legal = tt; chain = refl; digests = tt; some_size = some_size; most_size = most_size };
       tables_are_serial = record {
         definitions = inl refl;
         goes_back = λ k e. absurd (let z : None ≡ Some k = e in cc);

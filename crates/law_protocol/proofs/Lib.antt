@@ -1,6 +1,5 @@
 pub mod AlonesKeep
 pub mod Beginning
-pub mod BegunNames
 pub mod CommitAsked
 pub mod Decides
 pub mod DecidesSteps
@@ -21,15 +20,15 @@ pub mod OneAtATime
 pub mod OneSeat
 pub mod OthersHold
 pub mod InSessionOrder
-pub mod RanFirst
-pub mod Reorders
 pub mod SeatNames
 pub mod SinceFirst
 pub mod StepOrderKept
 pub mod StepsAlone
 pub mod StepsKeep
-pub mod TheEnd
-pub use Rattle.law_protocol_ledger.proofs.JoinsStand
+pub use Rattle.law_protocol_end.proofs.JoinsStand
+pub use Rattle.law_protocol_end.proofs.RanFirst
+pub use Rattle.law_protocol_end.proofs.Reorders
+pub use Rattle.law_protocol_end.proofs.TheEnd
 pub use Rattle.law_protocol_ledger.proofs.Splits
 pub use Rattle.law_protocol_steps.proofs.LedgerVisit
 pub use Rattle.law_protocol_tables.proofs.KeepsAsked

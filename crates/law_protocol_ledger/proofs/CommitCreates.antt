@@ -101,7 +101,7 @@ use Rattle.law_protocol_steps.proofs.SeatsAfter.{one_session, Goes, each_open, o
 use Rattle.std.specs.List.{AllByRecursion}
 use Rattle.law_protocol_changes.proofs.StepsSaid.{none_requested}
 use Rattle.law_protocol_ledger.proofs.CommitsStand.{commits_stand}
-use Rattle.law_protocol_ledger.proofs.NoneWanting.{none_wanting}
+use Rattle.law_protocol_end.proofs.NoneWanting.{none_wanting}
 use Rattle.spec_protocol.specs.ActsOf.{commit_acts}
 use Rattle.law_protocol_steps.proofs.GoesOn.{Owned, each_so, ActsBy, then_more}
 use Rattle.spec_history.specs.Acts as act

@@ -9,16 +9,12 @@ pub mod CommittedMore
 pub mod CreatedTables
 pub mod EndsHistory
 pub mod Entries
-pub mod GoneFree
-pub mod JoinsStand
 pub mod KeepsStand
 pub mod KnownMore
 pub mod KnownTurns
-pub mod NoneWanting
 pub mod Overs
 pub mod QuietOnes
 pub mod ReadsStand
-pub mod SameOpens
 pub mod Splits
 pub mod StepsBack
 pub mod StepsChecked

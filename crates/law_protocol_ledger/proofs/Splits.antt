@@ -16,7 +16,7 @@ use Rattle.spec_protocol.specs.Parts.{Numbers, all_of, IsOver, Past}
 use Rattle.spec_protocol.specs.TranscriptsAgree.{IsMoment, SeatAgrees, TranscriptsAgree}
 use Rattle.spec_protocol.specs.StandTogether.{History, Stands}
 use Rattle.spec_protocol.proofs.Places.{set_same}
-use Rattle.law_protocol_ledger.proofs.SameOpens.{tables_same, scripts_same, trees_same, agree_same, cover_same, rows_same}
+use Rattle.law_protocol_end.proofs.SameOpens.{tables_same, scripts_same, trees_same, agree_same, cover_same, rows_same}
 
 module _ {A : Type 0} where
   at_longer : (l : List A) (a : A) (i : ℕ) (b : A) → get_elem? l i ≡ some b → get_elem? (l ++ a ∷ []) i ≡ some b

@@ -1,5 +1,5 @@
 use Rattle.law_protocol_ledger.proofs.Splits.{splits_stand}
-use Rattle.law_protocol_ledger.proofs.JoinsStand.{join_stands}
+use Rattle.law_protocol_end.proofs.JoinsStand.{join_stands}
 use Rattle.law_protocol_ledger.proofs.seat_steps.splits_and_joins_keep_standing.Goals as goal
 
 pub returns : goal.returns

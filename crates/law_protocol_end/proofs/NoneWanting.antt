@@ -17,7 +17,7 @@ use Rattle.spec_protocol.specs.Seats.{OpenTransaction, Role, session, Session, S
 use Rattle.spec_protocol.specs.OpenOnes.{HasOpen, texts_so_far}
 use Rattle.spec_protocol.specs.Parts.{AreTransactions, IsTransaction, Now, Past, all_of}
 use Rattle.spec_protocol.specs.TranscriptsAgree.{TranscriptsAgree}
-use Rattle.law_protocol_ledger.proofs.GoneFree.{gone_free}
+use Rattle.law_protocol_end.proofs.GoneFree.{gone_free}
 use Rattle.law_protocol_steps.proofs.Ids.{InTransaction, in_transaction, each_in}
 
 pub past_over : (h : List Act) (ns : List ℕ) (xs : List Written) (n : ℕ) → Past h ns xs → In n ns → ((run first h).at n).phase ≡ gone

@@ -22,7 +22,7 @@ use Rattle.spec_protocol.specs.Seats.{SeatState, Written}
 use Rattle.spec_protocol.specs.Server.{Server}
 use Rattle.spec_protocol.specs.StandTogether.{History, Stands}
 use Rattle.law_protocol_steps.proofs.Ids.{each_in}
-use Rattle.law_protocol_ledger.proofs.JoinsStand.{rests_none}
+use Rattle.law_protocol_end.proofs.JoinsStand.{rests_none}
 
 -- ---- one place in the history, from the places for each other session
 

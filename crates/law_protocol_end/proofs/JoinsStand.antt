@@ -19,7 +19,7 @@ use Rattle.spec_protocol.specs.Seats.{OpenTransaction, Session, Written, Role, i
 use Rattle.spec_protocol.specs.StandTogether.{History, Stands}
 use Rattle.spec_protocol.specs.TranscriptsAgree.{session_moments, moments_of, IsMoment, ImagesOfPast, MarksWithin, SeatAgrees, TranscriptsAgree}
 use Rattle.spec_protocol.proofs.Places.{set_here, set_else}
-use Rattle.law_protocol_ledger.proofs.SameOpens.{tables_same, scripts_same, trees_same, agree_same, cover_same, rows_same}
+use Rattle.law_protocol_end.proofs.SameOpens.{tables_same, scripts_same, trees_same, agree_same, cover_same, rows_same}
 
 -- ---- lists
 
