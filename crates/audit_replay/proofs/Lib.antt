@@ -1,3 +1,4 @@
+pub mod Onward
 pub mod Roots
 pub mod Rules
 pub mod Steps

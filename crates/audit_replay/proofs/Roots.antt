@@ -1,5 +1,5 @@
 -- The roots of a transaction, table by table.
-use Rattle.std.proofs.Common.{◌≡◌, ◌+◌, ℕ, true, false, refl, sym, List, [], ◌∷◌, ◌++◌, map, length, append-nil}
+use Rattle.std.proofs.Common.{◌≡◌, ℕ, true, false, refl, sym, List, [], ◌∷◌, ◌++◌, map, length, append-nil}
 use Rattle.std.specs.Prelude.{◌==◌}
 use Rattle.std.specs.List.{AllByRecursion}
 use Rattle.format_event.specs.Leaf.{HasLeaf, event_bytes}

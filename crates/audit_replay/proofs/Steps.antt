@@ -1,5 +1,5 @@
 -- One item more that was run again.
-use Rattle.std.proofs.Common.{◌≡◌, ℕ, ◌+◌, ◌-◌, ◌≤◌, Bool, true, List, [], ◌∷◌, ◌++◌, map, flat_map, length, refl, sym, ap, subst, ◌∙◌, arith, Option, append-nil, append_assoc}
+use Rattle.std.proofs.Common.{◌≡◌, ℕ, ◌+◌, ◌≤◌, Bool, true, List, [], ◌∷◌, ◌++◌, map, flat_map, length, refl, sym, ap, subst, ◌∙◌, arith, append-nil, append_assoc}
 use Rattle.std.specs.List.{AllByRecursion}
 use Rattle.std.proofs.lemmas.Bool.{and_parts, leb-true}
 use Rattle.std.proofs.lemmas.List.{length-append}
@@ -39,7 +39,8 @@ use Rattle.sql_reference.specs.RunEnd.{run_end}
 use Rattle.sql_reference.specs.declared.serial_machine.ReplayAgreement.{ReplayAgreement}
 use Rattle.sql_reference.specs.declared.serial_machine.ReplayAgreement.TheVariants.{Agrees}
 use Rattle.sql_reference.proofs.Ready.{sound_new}
-use Rattle.audit_replay.specs.Reached.{HaveLeaves, MayFollow, KeepRules, Reached, image_from}
+use Rattle.audit_replay.specs.Reached.{HaveLeaves, LeadTo, MayFollow, KeepRules, Reached, image_from}
+use Rattle.audit_replay.specs.declared.running.RanAgain.{RanAgain}
 use Rattle.audit_replay.proofs.Rules.{rules_at, others, pending_enough}
 use Rattle.format_journal.specs.Rules.{IsItem, IsJournal}
 use Rattle.sql_types.specs.declared.journal.Journal.{Journal}
@@ -104,7 +105,7 @@ closing_follows J i k is follows = subst (MayFollow J) is follows
 module _ (reads : Reading) where
   -- ---- one item behind legal ones
 
-  legal_more : (before : List JournalItem) (T : Tables) (J : List JournalItem) (i : JournalItem)
+  pub legal_more : (before : List JournalItem) (T : Tables) (J : List JournalItem) (i : JournalItem)
       → IsLegalFrom reads before T J → IsNext reads (before ++ J) (serial_from reads T J) i
       → IsLegalFrom reads before T (J ++ i ∷ [])
   unfolding serial_from
@@ -283,11 +284,11 @@ module _ (reads : Reading) where
         (commits_one J id session time explicit lines reached.legal rules_now.0 rules_now.1 (there ran) h m n b c reached now order
         (ledger ∙ ap (λ (x : Machine). commits (entry_of h x.tables id session time) b.ledger) now) hash)
 
-  -- ---- the image of what was reached
+  -- ---- the image of where items lead
 
-  pub image_is : (h : List ℕ → List ℕ) (database : List ℕ) (items : List JournalItem) (m : Machine) (b : HashedLedger)
-      → Reached h reads items m b → image_from database b.ledger m.tables ≡ image_of h reads database items
+  pub image_led : (h : List ℕ → List ℕ) (database : List ℕ) (items : List JournalItem) (r : RanAgain)
+      → LeadTo h reads items r → image_from database r.ledger_chain.ledger r.tables.items ≡ image_of h reads database items
   unfolding image_of
-  image_is h database items m b reached =
-      ap (λ (l : Ledger). image_from database l m.tables) reached.ledger
-      ∙ ap (λ (n : Machine). image_from database (ledger_of h reads items) n.tables) reached.machine
+  image_led h database items r leads =
+      ap (λ (l : Ledger). image_from database l r.tables.items) leads.ledger
+      ∙ ap (λ (T : Tables). image_from database (ledger_of h reads items) T) leads.tables

@@ -18,6 +18,7 @@ use Rattle.sql_reference.specs.Machine.{Machine, at_rest}
 use Rattle.sql_reference.specs.Order.{InOrder}
 use Rattle.sql_reference.specs.RunEnd.{run_end}
 use Rattle.sql_reference.specs.declared.serial_machine.ReplayAgreement.TheVariants.{Differs}
+use Rattle.audit_replay.specs.declared.running.RanAgain.{RanAgain}
 use Rattle.audit_replay.specs.declared.running.ReplayErr.{ReplayErr}
 use Rattle.audit_replay.specs.declared.running.ReplayErr.TheVariants as errors
 
@@ -45,6 +46,13 @@ pub record Reached (h : List ℕ → List ℕ) (reads : Reading) (items : List J
   pub order : InOrder m
   pub ledger : b.ledger ≡ ledger_of h reads items
   pub hash : KeepsHash h b
+
+-- these items are legal, and this is where they lead
+pub record LeadTo (h : List ℕ → List ℕ) (reads : Reading) (items : List JournalItem) (r : RanAgain) : Type 0 where
+  pub legal : IsLegal reads items
+  pub tables : r.tables.items ≡ serial reads items
+  pub ledger : r.ledger_chain.ledger ≡ ledger_of h reads items
+  pub hash : KeepsHash h r.ledger_chain
 
 -- an image of these parts
 abbrev pub image_from : List ℕ → Ledger → Tables → Image

@@ -4,6 +4,8 @@
 mod entry;
 mod image;
 mod item;
+mod past;
 mod running;
 
-pub use running::{ReplayErr, replay};
+pub use past::{Past, past_of};
+pub use running::{RanAgain, ReplayErr, replay, run_again};

@@ -1,5 +1,6 @@
 pub mod Calls
 pub mod Definitions
+pub mod GoingOn
 pub mod Names
 pub mod Noted
 pub mod Refusals

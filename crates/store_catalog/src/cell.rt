@@ -47,11 +47,11 @@ use store_tx::TxCtx;
 /// locks of the catalog. Contracts see the cell of which the laws on visits speak.
 #[derive(Drop)]
 pub struct CatalogCell {
-    defs: NamedDefs,
-    creator: Option<Creator>,
-    tables: VersionStore,
-    columns: VersionStore,
-    locks: LockList,
+    pub(crate) defs: NamedDefs,
+    pub(crate) creator: Option<Creator>,
+    pub(crate) tables: VersionStore,
+    pub(crate) columns: VersionStore,
+    pub(crate) locks: LockList,
 }
 
 impl Model for CatalogCell {

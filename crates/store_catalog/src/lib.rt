@@ -6,6 +6,7 @@ mod altering;
 mod cell;
 mod creating;
 mod definitions;
+mod going_on;
 mod laws;
 mod locks;
 mod named_defs;

@@ -1,5 +1,6 @@
 pub mod Asking
 pub mod Between
+pub mod Built
 pub mod ByKey
 pub mod Carrying
 pub mod Done

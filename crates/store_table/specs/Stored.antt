@@ -2,9 +2,11 @@
 use Rattle.std.specs.Prelude.{ℕ, ◌++◌, List, [], ◌∷◌, length, map, None}
 use Rattle.std.specs.List.{filter}
 use Rattle.std.specs.Ordering.{is_lt}
+use Rattle.sql_types.specs.declared.table.IndexDef.{IndexDef}
 use Rattle.sql_types.specs.declared.version.Version.{Version}
 use Rattle.spec_model.specs.Rows.{EventId, live}
 use Rattle.spec_model.specs.Keys.{key_cmp, live_by_key_at}
+use Rattle.spec_continued.specs.Continued.{index_with}
 pub use Rattle.spec_protocol.specs.Cells.{Index}
 pub use Rattle.spec_protocol.specs.TablesAreSerial.{projected, index_order}
 pub use Rattle.spec_protocol.specs.TableVisits.{reordered}
@@ -17,6 +19,15 @@ pub record Stored : Type 0 where
   -- the starts of the versions that stand, in key order
   pub order : List EventId
   pub indexes : List Index
+
+-- these versions, whose key is at these places, with the indexes of these definitions
+abbrev pub stored_with : List ℕ → List IndexDef → List Version → Stored
+stored_with key indexes versions = record {
+  key = key;
+  versions = versions;
+  order = map (λ v. v.start) (live_by_key_at key None versions);
+  indexes = map (index_with key versions) indexes;
+}
 
 -- key order and indexes follow the versions, whose key is at these places
 abbrev pub with_versions : List ℕ → List Version → Stored → Stored

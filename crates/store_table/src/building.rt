@@ -1,17 +1,20 @@
-//! A new index, which is the only work that sorts.
+//! The orders that are kept beside versions, made of all of them: the only work that sorts.
 
-ghost use Rattle.std.specs.Prelude.{◌≡◌, ◌≤◌, IfOk, OnOk, map};
+ghost use Rattle.std.specs.Prelude.{◌≡◌, ◌≤◌, IfOk, OnOk, length, map};
+ghost use Rattle.std.specs.List.{AllByRecursion};
 ghost use Rattle.spec_model.specs.Lists.{sorted};
 ghost use Rattle.spec_model.specs.Rows.{live};
 ghost use Rattle.spec_model.specs.Runs.{Rising};
-ghost use Rattle.store_table.specs.Kept.{HasCapacity, IsOf};
+ghost use Rattle.store_table.specs.Kept.{AreOf, HasCapacity, HaveCapacity, IsOf, ordinals_of};
 ghost use Rattle.store_table.specs.Orders.{row_cmp, starts_of};
 
 use crate::comparing::compare_rows;
+use crate::ending::endings_in;
 use crate::index::Index;
 use crate::leading::lead_of;
+use crate::orders::Orders;
 use base_types::{Items, Memory};
-use sql_types::Version;
+use sql_types::{IndexDef, Version};
 use std::alloc::Global;
 use store_order::Starts;
 
@@ -73,4 +76,44 @@ fn starts_of(
         starts.insert(end, version.start, lead_of(ordinals, key, *version));
     }
     Ok(starts)
+}
+
+// The indexes of these definitions, with room for all versions.
+fn new_indexes(
+    alloc: Global,
+    key: &[usize],
+    defs: &[IndexDef],
+    versions: &[Version],
+) -> Result<Vec<Index>, Memory>
+    requires { Rising versions.now }
+    ensures of { IfOk result (λ indexes. AllByRecursion (IsOf key.now versions.now) indexes.items) }
+    ensures ordinals { IfOk result (λ indexes. ordinals_of indexes.items ≡ map (λ d. d.ordinals) defs.now) }
+    ensures room { IfOk result (λ indexes. AllByRecursion (HasCapacity (length versions.now)) indexes.items) }
+{
+    let mut indexes = Vec::with_capacity(alloc, defs.len())?;
+    for def in defs {
+        let ordinals = def.ordinals.as_slice();
+        indexes.push(new_index(alloc, ordinals, key, versions, versions.len())?)?;
+    }
+    Ok(indexes)
+}
+
+/// The key order, the ends and the indexes of these definitions, each with room for all versions.
+pub fn new_orders(
+    alloc: Global,
+    key: &[usize],
+    defs: &[IndexDef],
+    versions: &[Version],
+) -> Result<Orders, Memory>
+    requires { Rising versions.now }
+    ensures of { IfOk result (AreOf key.now versions.now) }
+    ensures ordinals { IfOk result (λ orders. ordinals_of orders.indexes.items
+        ≡ map (λ d. d.ordinals) defs.now) }
+    ensures room { IfOk result (HaveCapacity (length versions.now)) }
+{
+    Ok(Orders {
+        key_order: new_index(alloc, &[], key, versions, versions.len())?,
+        ends: endings_in(alloc, versions)?,
+        indexes: new_indexes(alloc, key, defs, versions)?,
+    })
 }

@@ -28,9 +28,9 @@ use store_tx::TxCtx;
 /// cell of which the laws on visits speak.
 #[derive(Drop)]
 pub struct TableCell {
-    store: VersionStore,
-    locks: LockList,
-    id: TableId,
+    pub(crate) store: VersionStore,
+    pub(crate) locks: LockList,
+    pub(crate) id: TableId,
 }
 
 impl Model for TableCell {
@@ -197,8 +197,8 @@ impl TableCell {
         self.locks.release(tx);
     }
 
-    /// Adds the last index of the definition, where the others are there. The only work that sorts. For want
-    /// of memory nothing changes.
+    /// Adds the last index of the definition, where the others are there. No other change sorts. For want of
+    /// memory nothing changes.
     pub fn add_index(&mut self, alloc: Global, def: &TableDef) -> Result<(), Memory>
         requires table { IsTable self.old def.now }
         requires indexes { LacksLast self.old def.now }

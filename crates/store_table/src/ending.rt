@@ -1,16 +1,18 @@
 //! The ends of versions in the order of the events that made them.
 
-ghost use Rattle.std.specs.Prelude.{◌≡◌, ◌≤◌, ◌<◌, List, true, false, nat_le, IfNone, IfSome, OnOk, length, vec_capacity};
+ghost use Rattle.std.specs.Prelude.{◌≡◌, ◌≤◌, ◌<◌, ◌++◌, List, true, false, nat_le, IfNone, IfOk, IfSome, OnOk, length, vec_capacity};
 ghost use Rattle.std.specs.List.{AllByRecursion, Contains};
 ghost use Rattle.std.specs.Ordering.{is_lt};
 ghost use Rattle.spec_model.specs.Lists.{inserted, sorted};
 ghost use Rattle.spec_model.specs.Undo as undo;
-ghost use Rattle.store_table.specs.Ends.{ending_cmp, ending_place};
+ghost use Rattle.store_table.specs.Ends.{ending_cmp, ending_place, endings_in, endings_of, own_ending};
 ghost use Rattle.store_table.specs.declared.ending.Ending.{Ending as SpecEnding};
 
 use crate::searching::is_undone;
 use base_types::{Memory, TxId};
-use sql_types::EventId;
+use sql_types::{EventId, Version};
+use std::alloc::Global;
+use std::cmp::Ordering;
 
 /// The end of a version.
 #[derive(Clone, Copy, Debug, PartialEq, Eq)]
@@ -21,10 +23,17 @@ pub struct Ending {
     pub start: EventId,
 }
 
+// By the events that ended the versions, and then by those that started them.
+fn compare_endings(a: &Ending, b: &Ending) -> Ordering
+    ensures { result ≡ ending_cmp a.now b.now }
+{
+    a.end.cmp(&b.end).then(a.start.cmp(&b.start))
+}
+
 fn comes_before(a: &Ending, b: &Ending) -> bool
     ensures { result ≡ is_lt (ending_cmp a.now b.now) }
 {
-    a.end.cmp(&b.end).then(a.start.cmp(&b.start)).is_lt()
+    compare_endings(a, b).is_lt()
 }
 
 /// Where an end stands among ends in their order, or would stand, by halving.
@@ -87,4 +96,45 @@ pub fn reserve_ends(ends: &mut Vec<Ending>, count: usize) -> Result<(), Memory>
 {
     ends.reserve(count.saturating_sub(ends.len()))?;
     Ok(())
+}
+
+// Adds the end of a version, where it has one.
+fn add_own(ends: &mut Vec<Ending>, version: &Version) -> Result<(), Memory>
+    ensures ok { OnOk result (ends.new.items ≡ ends.old.items ++ own_ending version.now.end version.now.start) }
+    ensures room { vec_capacity ends.old ≤ vec_capacity ends.new }
+{
+    if let Some(end) = version.end {
+        let start = version.start;
+        ends.push(Ending { end, start })?;
+    }
+    Ok(())
+}
+
+fn endings_of(alloc: Global, versions: &[Version]) -> Result<Vec<Ending>, Memory>
+    ensures items { IfOk result (λ ends. ends.items ≡ endings_of versions.now) }
+    ensures room { IfOk result (λ ends. length versions.now ≤ vec_capacity ends) }
+{
+    let mut ends = Vec::with_capacity(alloc, versions.len())?;
+    for version in versions {
+        add_own(&mut ends, version)?;
+    }
+    Ok(ends)
+}
+
+fn sort_endings(ends: &mut Vec<Ending>) -> Result<(), Memory>
+    ensures ok { OnOk result (ends.new.items ≡ sorted ending_cmp ends.old.items) }
+    ensures room { vec_capacity ends.old ≤ vec_capacity ends.new }
+{
+    ends.sort_by(|a, b| compare_endings(a, b))?;
+    Ok(())
+}
+
+/// The ends of these versions, sorted, with room for one of each version.
+pub fn endings_in(alloc: Global, versions: &[Version]) -> Result<Vec<Ending>, Memory>
+    ensures items { IfOk result (λ ends. ends.items ≡ endings_in versions.now) }
+    ensures room { IfOk result (λ ends. length versions.now ≤ vec_capacity ends) }
+{
+    let mut ends = endings_of(alloc, versions)?;
+    sort_endings(&mut ends)?;
+    Ok(ends)
 }

@@ -6,6 +6,7 @@ mod by_key;
 mod cell;
 mod comparing;
 mod ending;
+mod going_on;
 mod guessing;
 mod index;
 mod laws;

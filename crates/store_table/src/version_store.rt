@@ -38,12 +38,12 @@ use store_order::Starts;
 #[derive(Drop)]
 pub struct VersionStore {
     // The places of the key's columns, where there are versions.
-    key: Vec<usize>,
-    versions: Vec<Version>,
-    orders: Orders,
+    pub(crate) key: Vec<usize>,
+    pub(crate) versions: Vec<Version>,
+    pub(crate) orders: Orders,
     // So many more versions may start.
-    room: usize,
-    alloc: Global,
+    pub(crate) room: usize,
+    pub(crate) alloc: Global,
 }
 
 impl Model for VersionStore {
@@ -280,8 +280,8 @@ impl VersionStore {
         self.versions.remove(place);
     }
 
-    /// Adds an index of the columns with these ordinals, with room for all versions. The only work that
-    /// sorts. For want of memory nothing changes.
+    /// Adds an index of the columns with these ordinals, with room for all versions. No other change sorts.
+    /// For want of memory nothing changes.
     pub fn add_index(&mut self, alloc: Global, ordinals: &[u16]) -> Result<(), Memory>
         ensures ok { OnOk result (self.new.stored ≡ with_index ordinals.now self.old.stored) }
         ensures room { self.new.room ≡ self.old.room }

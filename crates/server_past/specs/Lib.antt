@@ -1,0 +1,3 @@
+pub mod PastCells
+pub mod Ready
+pub use Rattle.server_session.specs.KeptCell
