@@ -18,61 +18,17 @@ use Rattle.cli_audit.specs.Answer.{Unfailed}
 use Rattle.cli_audit.specs.declared.transfer.ReadErr.TheVariants as reading
 use Rattle.cli_audit.specs.AsOf.{AreHeld, AreReadsBehind, AreSubject, AreToldSo, AsOfCause, EndsSaying, FileIsRefused, HasAnswered, HasReadBehind, HasSubject, IsTold, IsUnread, LacksAnswers, LacksSubject, LacksTexts, LacksTold, SaysAnswers, StandAndCame}
 use Rattle.cli_audit.specs.Calls.{AreGets, AreGetsBefore, AreWrites, Gave, Moved}
-use Rattle.cli_audit.specs.Names.{LacksName}
 use Rattle.cli_audit.specs.Receipt.{EndsRefusing}
 use Rattle.cli_audit.specs.Transfer.{input_limit, IsInputRead, IsTooMuch}
 use Rattle.cli_audit.specs.Verify.{AreRefused, SaidOrIdle}
 use Rattle.cli_audit.proofs.CallLemmas.{since_none, since_weaker}
+use Rattle.cli_audit.proofs.GetLemmas.{IsAtName, by_name, name_lacks}
 
 if_some : {A : Type 0} {P Q : A → Type 0} (o : Option A) → IfSome o P → ((a : A) → P a → Q a) → IfSome o Q
 if_some None p weaker = tt
 if_some (Some a) p weaker = weaker a p
 
 -- ---- a name isn't read
-
--- with one of these statuses
-abbrev IsAtName : Status → Type 0
-IsAtName Limit = Unit {0}
-IsAtName VaultFault = Unit {0}
-IsAtName (Missing which) = Unit {0}
-IsAtName Memory = Unit {0}
-IsAtName _ = ⊥
-
-by_name : (P : Status → Type 0) → P Limit → P VaultFault → ((which : ℕ) → P (Missing which)) → P Memory → (status : Status) → IsAtName status → P status
-by_name P long failed missing short Limit is = long
-by_name P long failed missing short VaultFault is = failed
-by_name P long failed missing short (Missing which) is = missing which
-by_name P long failed missing short Memory is = short
-by_name P long failed missing short Done is = absurd is
-by_name P long failed missing short No is = absurd is
-by_name P long failed missing short Words is = absurd is
-by_name P long failed missing short SourceFault is = absurd is
-by_name P long failed missing short SinkFault is = absurd is
-by_name P long failed missing short (Digests index) is = absurd is
-by_name P long failed missing short (Journal at) is = absurd is
-by_name P long failed missing short (Form line) is = absurd is
-by_name P long failed missing short NoEntry is = absurd is
-by_name P long failed missing short NotImage is = absurd is
-by_name P long failed missing short Receipt is = absurd is
-by_name P long failed missing short (TooFar entries) is = absurd is
-
-name_lacks : (which limit : ℕ) (names : Option Names) (name : List ℕ) (status : Status) → LacksName status which limit names name → IsAtName status
-name_lacks which limit names name Limit lacks = tt
-name_lacks which limit names name VaultFault lacks = tt
-name_lacks which limit names name (Missing number) lacks = tt
-name_lacks which limit names name Memory lacks = tt
-name_lacks which limit names name Done lacks = absurd lacks
-name_lacks which limit names name No lacks = absurd lacks
-name_lacks which limit names name Words lacks = absurd lacks
-name_lacks which limit names name SourceFault lacks = absurd lacks
-name_lacks which limit names name SinkFault lacks = absurd lacks
-name_lacks which limit names name (Digests index) lacks = absurd lacks
-name_lacks which limit names name (Journal at) lacks = absurd lacks
-name_lacks which limit names name (Form line) lacks = absurd lacks
-name_lacks which limit names name NoEntry lacks = absurd lacks
-name_lacks which limit names name NotImage lacks = absurd lacks
-name_lacks which limit names name Receipt lacks = absurd lacks
-name_lacks which limit names name (TooFar entries) lacks = absurd lacks
 
 at_name : (image : List ℕ) (digests : Option (List ℕ)) (names : Option Names) (status : Status) → LacksSubject status image digests names → IsAtName status
 at_name image None names status lacks = name_lacks 1 _ names image status lacks
@@ -122,7 +78,7 @@ module _ (input rest : Option (List ℕ)) where
 
 -- ---- the input isn't read to its end
 
-by_unread : (P : Status → Type 0) (input : Option (List ℕ)) (source : Type 0) → (IfSome input IsTooMuch → P Limit) → (source → P SourceFault) → P Memory
+pub by_unread : (P : Status → Type 0) (input : Option (List ℕ)) (source : Type 0) → (IfSome input IsTooMuch → P Limit) → (source → P SourceFault) → P Memory
     → (status : Status) → IsUnread status input source → P status
 by_unread P input source long failed short Limit unread = long unread
 by_unread P input source long failed short SourceFault unread = failed unread

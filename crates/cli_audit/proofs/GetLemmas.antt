@@ -62,3 +62,49 @@ lacks_next old mid new n k limit Receipt names name few lacks so_far one = absur
 lacks_next old mid new n k limit (TooFar entries) names name few lacks so_far one = absurd lacks
 lacks_next old mid new n k limit (Journal at) names name few lacks so_far one = absurd lacks
 lacks_next old mid new n k limit (Form line) names name few lacks so_far one = absurd lacks
+
+-- ---- a name isn't read
+
+-- with one of these statuses
+abbrev pub IsAtName : Status → Type 0
+IsAtName Limit = Unit {0}
+IsAtName VaultFault = Unit {0}
+IsAtName (Missing which) = Unit {0}
+IsAtName Memory = Unit {0}
+IsAtName _ = ⊥
+
+pub by_name : (P : Status → Type 0) → P Limit → P VaultFault → ((which : ℕ) → P (Missing which)) → P Memory → (status : Status) → IsAtName status → P status
+by_name P long failed missing short Limit is = long
+by_name P long failed missing short VaultFault is = failed
+by_name P long failed missing short (Missing which) is = missing which
+by_name P long failed missing short Memory is = short
+by_name P long failed missing short Done is = absurd is
+by_name P long failed missing short No is = absurd is
+by_name P long failed missing short Words is = absurd is
+by_name P long failed missing short SourceFault is = absurd is
+by_name P long failed missing short SinkFault is = absurd is
+by_name P long failed missing short (Digests index) is = absurd is
+by_name P long failed missing short (Journal at) is = absurd is
+by_name P long failed missing short (Form line) is = absurd is
+by_name P long failed missing short NoEntry is = absurd is
+by_name P long failed missing short NotImage is = absurd is
+by_name P long failed missing short Receipt is = absurd is
+by_name P long failed missing short (TooFar entries) is = absurd is
+
+pub name_lacks : (which limit : ℕ) (names : Option Names) (name : List ℕ) (status : Status) → LacksName status which limit names name → IsAtName status
+name_lacks which limit names name Limit lacks = tt
+name_lacks which limit names name VaultFault lacks = tt
+name_lacks which limit names name (Missing number) lacks = tt
+name_lacks which limit names name Memory lacks = tt
+name_lacks which limit names name Done lacks = absurd lacks
+name_lacks which limit names name No lacks = absurd lacks
+name_lacks which limit names name Words lacks = absurd lacks
+name_lacks which limit names name SourceFault lacks = absurd lacks
+name_lacks which limit names name SinkFault lacks = absurd lacks
+name_lacks which limit names name (Digests index) lacks = absurd lacks
+name_lacks which limit names name (Journal at) lacks = absurd lacks
+name_lacks which limit names name (Form line) lacks = absurd lacks
+name_lacks which limit names name NoEntry lacks = absurd lacks
+name_lacks which limit names name NotImage lacks = absurd lacks
+name_lacks which limit names name Receipt lacks = absurd lacks
+name_lacks which limit names name (TooFar entries) lacks = absurd lacks

@@ -71,15 +71,14 @@ next_agrees again reads before T (Close k) next = closing_agrees reads T k
 not_both : (statement : ℕ) → Agrees ≡ Differs statement → ⊥
 not_both statement e = cc
 
--- so no journal with an item that differs is legal
+-- so no items are legal of which one differs
+pub differs_illegal : AgreesAgain → (reads : Reading) (items : List JournalItem) (item statement : ℕ) → DiffersAt reads (errors.Differs item statement) items → IsLegal reads items → ⊥
+differs_illegal again reads items item statement d legal =
+    let next : IsNext reads d.0 (serial reads d.0) d.1 = next_at reads [] d.0 first_tables d.1 d.2 (subst (IsLegal reads) d.3 legal) in
+    not_both statement (sym (next_agrees again reads d.0 (serial reads d.0) d.1 next) ∙ d.6)
+
 pub illegal_at : AgreesAgain → (J : JournalOf) (item statement : ℕ) → DiffersAt (reading_of J.version) (errors.Differs item statement) J.items → IsIllegalAt J item statement
-illegal_at again J item statement d = record {
-  not_legal = λ whole.
-      let reads : Reading = reading_of J.version in
-      let next : IsNext reads d.0 (serial reads d.0) d.1 = next_at reads [] d.0 first_tables d.1 d.2 (subst (IsLegal reads) d.3 whole.legal) in
-      not_both statement (sym (next_agrees again reads d.0 (serial reads d.0) d.1 next) ∙ d.6);
-  differs = d;
-}
+illegal_at again J item statement d = record { not_legal = λ whole. differs_illegal again (reading_of J.version) J.items item statement d whole.legal; differs = d }
 
 pub illegal_by : AgreesAgain → (J : JournalOf) (error : ReplayErr) → DiffersAt (reading_of J.version) error J.items → IsIllegal (replay_status error) J
 illegal_by again J (errors.Differs item statement) d = illegal_at again J item statement d
@@ -280,14 +279,14 @@ gave_short old now gave = since_weaker old now (Gave 1) (AreGetsAndPuts 1 Memory
 -- ---- gets, and puts behind them
 
 module _ (old mid new : Answers → Type 0) (k : ℕ) where
-  gets_then : (are : Answers → Type 0) → Since old mid (Gave k) → Since mid new are → Since old new (Behind k are)
+  pub gets_then : (are : Answers → Type 0) → Since old mid (Gave k) → Since mid new are → Since old new (Behind k are)
   gets_then are gets puts = record {
     answers = gets.answers ++ puts.answers;
     adds = λ earlier had. subst new (append_assoc earlier gets.answers puts.answers) (puts.adds (earlier ++ gets.answers) (gets.adds earlier had));
     such = (gets.answers, puts.answers, refl, gets.such, puts.such);
   }
 
-  then_or : (status : Status) → Since old mid (Gave k) → Since mid new (ArePuts status)
+  pub then_or : (status : Status) → Since old mid (Gave k) → Since mid new (ArePuts status)
       → Since old new (λ answers. AreGets k status answers ⊎ Behind k (ArePuts status) answers)
   then_or status gets puts =
       since_weaker old new (Behind k (ArePuts status)) (λ answers. AreGets k status answers ⊎ Behind k (ArePuts status) answers) (λ answers b. inr b)

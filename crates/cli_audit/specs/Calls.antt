@@ -82,6 +82,11 @@ abbrev pub AreGetsBefore : ℕ → Status → List (Result ⊤ VaultErr) → Typ
 AreGetsBefore k Limit answers = AreGets k Limit answers ⊎ Gave k answers
 AreGetsBefore k status answers = AreGets k status answers
 
+-- what the vault answered where k names are read, then the input, and then files are put
+abbrev pub AreGetsInputAndPuts : ℕ → Status → List (Result ⊤ VaultErr) → Type 0
+AreGetsInputAndPuts k Limit answers = AreGetsBefore k Limit answers
+AreGetsInputAndPuts k status answers = AreGetsAndPuts k status answers
+
 -- how many names `asof` is given, of an image and perhaps of digests
 abbrev pub name_count : Option (List ℕ) → ℕ
 name_count None = 1

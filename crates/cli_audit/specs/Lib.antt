@@ -6,6 +6,7 @@ pub mod Evidence
 pub mod Extract
 pub mod Files
 pub mod Names
+pub mod Past
 pub mod Receipt
 pub mod Replay
 pub mod Status

@@ -148,17 +148,21 @@ LacksImage (status.Journal (Some at)) bytes =
 LacksImage status.Memory bytes = Unit {0}
 LacksImage _ bytes = ⊥
 
--- why what stands under a name leads to none
-abbrev pub LacksReplay : Status → List ℕ → Option Names → Type 0 → Type 0
-LacksReplay status.Limit name names vault = LacksName status.Limit 1 image_limit names name
-LacksReplay (status.Missing which) name names vault = LacksName (status.Missing which) 1 image_limit names name
-LacksReplay (status.Journal None) name names vault =
+-- why no journal stands under a name
+abbrev pub LacksJournal : Status → List ℕ → Option Names → Type 0 → Type 0
+LacksJournal status.Limit name names vault = LacksName status.Limit 1 image_limit names name
+LacksJournal (status.Missing which) name names vault = LacksName (status.Missing which) 1 image_limit names name
+LacksJournal (status.Journal None) name names vault =
     (bytes : List ℕ) × IsUnderName name names bytes × SpellsNone bytes
+LacksJournal status.VaultFault name names vault = vault
+LacksJournal status.Memory name names vault = Unit {0}
+LacksJournal _ name names vault = ⊥
+
+-- why what stands under a name leads to no image
+abbrev pub LacksReplay : Status → List ℕ → Option Names → Type 0 → Type 0
 LacksReplay (status.Journal (Some at)) name names vault =
     JournalUnder name names (λ J. IsIllegalAt J at.0 at.1)
-LacksReplay status.VaultFault name names vault = vault
-LacksReplay status.Memory name names vault = Unit {0}
-LacksReplay _ name names vault = ⊥
+LacksReplay ended name names vault = LacksJournal ended name names vault
 
 -- Why a status comes. The causes exclude one another but for those of faults and want of memory, so each
 -- comes exactly where its cause stands, unless a fault or want of memory comes before it.

@@ -103,8 +103,8 @@ fn read_subject<V: Vault>(
     }
 }
 
-/// Reads the whole input.
-fn read_whole<S: Source>(alloc: Global, source: &mut S) -> Result<Vec<u8>, Status>
+/// Reads the whole input. `Limit` where it has more than `INPUT_LIMIT` bytes, of which one behind these is taken.
+pub fn read_whole<S: Source>(alloc: Global, source: &mut S) -> Result<Vec<u8>, Status>
     ensures came { IfOk result (λ bytes. IfSome (S.left source.old) (λ input. bytes.items ≡ input)) }
     ensures within { IfOk result (λ bytes. length bytes.items ≤ input_limit) }
     ensures rest { IfOk result (λ bytes. IfSome (S.left source.old) (λ input. S.left source.new ≡ Some [])) }

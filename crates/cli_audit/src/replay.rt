@@ -29,7 +29,7 @@ use sql_reference::run_agrees_with_legal_items;
 use std::alloc::{AllocError, Global};
 
 /// The journal whose bytes these are.
-fn journal_of(alloc: Global, bytes: &[u8]) -> Result<Journal, Status>
+pub(crate) fn journal_of(alloc: Global, bytes: &[u8]) -> Result<Journal, Status>
     ensures spelled { IfOk result (λ journal. IsSpelled journal bytes.now) }
     ensures refused { IfErr result (λ status. AreRefused status bytes.now) }
 {
@@ -40,8 +40,8 @@ fn journal_of(alloc: Global, bytes: &[u8]) -> Result<Journal, Status>
     }
 }
 
-/// How a call ends where a journal has no image.
-fn status_of(error: ReplayErr) -> Status
+/// How a call ends where a journal is refused that was run again.
+pub(crate) fn status_of(error: ReplayErr) -> Status
     ensures { result ≡ replay_status error }
 {
     match error {

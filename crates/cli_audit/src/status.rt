@@ -31,7 +31,9 @@ pub enum Status {
     Digests { index: Option<u64> },
     /// The bytes are no journal's, or the journal isn't legal: this statement of this item, both counted from
     /// 0, is the first that is answered otherwise when it is run again. Where all replies of the item agree
-    /// and it leaves no event, its number of statements stands in the place of the statement.
+    /// and it leaves no event, its number of statements stands in the place of the statement. Or a database is
+    /// to go on from the journal, and this is the first COMMIT or ROLLBACK of all in a transaction that BEGIN
+    /// opened.
     Journal { at: Option<(u64, u64)> },
     /// This line of the input has no session, or isn't UTF-8. It is the first such line, counted from 1.
     Form { line: u64 },

@@ -5,7 +5,7 @@ use Rattle.std.proofs.lemmas.List.{drop_all}
 use Rattle.std.specs.declared.alloc.Global.{Global}
 use Rattle.cli_audit.specs.declared.status.Status.{Status}
 use Rattle.cli_audit.specs.declared.status.Status.TheVariants.{Done, No, Words, Limit, SourceFault, SinkFault, VaultFault, Missing, Digests, Journal, Form, Memory, NotImage, NoEntry, Receipt, TooFar}
-use Rattle.cli_commands.specs.Input.{InputForm}
+use Rattle.cli_commands.specs.Input.{InputForm, IsInput}
 use Rattle.cli_audit.specs.Transfer.{input_limit, IsInputRead}
 use Rattle.cli_audit.specs.Answer.{HasRead, EndsBy}
 use Rattle.cli_commands.specs.Answer.{InputCause, RunOutcomeOrIdle}
@@ -99,3 +99,23 @@ ran_within (Journal at) ran ran' idle f r = r
 ran_within Limit ran ran' idle f r = r
 ran_within SourceFault ran ran' idle f r = r
 ran_within (Form line) ran ran' idle f r = r
+
+-- a call that ran an input ends so by how putting and writing end
+pub cause_by : {A : Type 0} (form : InputForm A) (status : Status) (bytes : List ℕ) (vault sink : Type 0) → IsInput form bytes → EndsBy status vault sink
+    → InputCause form status (Some bytes) ⊥ vault sink
+cause_by form Done bytes vault sink said ends = said
+cause_by form SinkFault bytes vault sink said ends = ends
+cause_by form VaultFault bytes vault sink said ends = ends
+cause_by form Memory bytes vault sink said ends = tt
+cause_by form Words bytes vault sink said ends = absurd ends
+cause_by form No bytes vault sink said ends = absurd ends
+cause_by form (Missing which) bytes vault sink said ends = absurd ends
+cause_by form (Digests index) bytes vault sink said ends = absurd ends
+cause_by form NoEntry bytes vault sink said ends = absurd ends
+cause_by form NotImage bytes vault sink said ends = absurd ends
+cause_by form Receipt bytes vault sink said ends = absurd ends
+cause_by form (TooFar entries) bytes vault sink said ends = absurd ends
+cause_by form (Journal at) bytes vault sink said ends = absurd ends
+cause_by form Limit bytes vault sink said ends = absurd ends
+cause_by form SourceFault bytes vault sink said ends = absurd ends
+cause_by form (Form line) bytes vault sink said ends = absurd ends

@@ -135,14 +135,14 @@ of_one : {A : Type 0} (P : A → Type 0) (x : A) (lists : List (List A)) → Eac
 of_one P x [] e s = absurd s
 of_one P x (xs ∷ lists) e s = ⊎_elim (λ i. some_in P x xs e.0 i) (λ t. of_one P x lists e.1 t) s
 
-each_of_one : {A : Type 0} (P : A → Type 0) (lists : List (List A)) (xs : List A) → Each (λ l. Each P l) lists → Each (λ x. Some_of (λ l. In x l) lists) xs → Each P xs
+pub each_of_one : {A : Type 0} (P : A → Type 0) (lists : List (List A)) (xs : List A) → Each (λ l. Each P l) lists → Each (λ x. Some_of (λ l. In x l) lists) xs → Each P xs
 each_of_one P lists xs e s = each_weaker (λ x. Some_of (λ l. In x l) lists) P (λ x t. of_one P x lists e t) xs s
 
-abbrev AreSmall : List KeptImage → Type 0
+abbrev pub AreSmall : List KeptImage → Type 0
 AreSmall images = Each (λ k. k.0 < 2 ^ 64) images
 
 -- those of the images of a journal that has a spelling
-numbers_small : (h : List ℕ → List ℕ) (database : List ℕ) (J : Journal) (kept : List (List KeptImage)) (images : List KeptImage) → length J.items < 2 ^ 64
+pub numbers_small : (h : List ℕ → List ℕ) (database : List ℕ) (J : Journal) (kept : List (List KeptImage)) (images : List KeptImage) → length J.items < 2 ^ 64
     → Each (λ ks. Each (IsImageOf h statement_of database J.items) ks) kept → AreKept kept images → AreSmall images
 numbers_small h database J kept images few are saved =
     let each : Each AreSmall kept =

@@ -3,13 +3,15 @@ use Rattle.std.specs.Prelude.{⊤, ◌≡◌, List, [], Option, Some, None, Resu
 use Rattle.base_io.specs.declared.vault.VaultErr.{VaultErr}
 use Rattle.cli_words.specs.Commands.{Command, Step, Run, Verify, Extract, Replay, Upgrade, Gen, Receipt, Join, Check, AsOf, Help, Version}
 use Rattle.cli_audit.specs.declared.status.Status.{Status}
-use Rattle.cli_audit.specs.Calls.{AreGets, ArePuts, AreGetsAndPuts, AreGetsBefore, name_count}
+use Rattle.cli_audit.specs.Calls.{AreGets, ArePuts, AreGetsAndPuts, AreGetsInputAndPuts, AreGetsBefore, name_count}
 
 -- what the vault answered, by the command
 abbrev pub AreCalls : Option Command → Status → List (Result ⊤ VaultErr) → Type 0
 AreCalls None status answers = answers ≡ []
-AreCalls (Some (Step save how)) status answers = ArePuts status answers
-AreCalls (Some (Run save how)) status answers = ArePuts status answers
+AreCalls (Some (Step save None how)) status answers = ArePuts status answers
+AreCalls (Some (Step save (Some journal) how)) status answers = AreGetsInputAndPuts 1 status answers
+AreCalls (Some (Run save None how)) status answers = ArePuts status answers
+AreCalls (Some (Run save (Some journal) how)) status answers = AreGetsInputAndPuts 1 status answers
 AreCalls (Some (Verify image digests workers)) status answers = AreGets 2 status answers
 AreCalls (Some (Replay journal save)) status answers = AreGetsAndPuts 1 status answers
 AreCalls (Some (Upgrade image save)) status answers = AreGetsAndPuts 1 status answers

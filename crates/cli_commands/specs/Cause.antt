@@ -8,6 +8,7 @@ use Rattle.cli_commands.specs.Answer.{InputCause}
 use Rattle.cli_audit.specs.AsOf.{AsOfCause}
 use Rattle.cli_audit.specs.Check.{CheckCause}
 use Rattle.cli_audit.specs.Extract.{ExtractCause}
+use Rattle.cli_commands.specs.GoesOn.{CauseBehind}
 use Rattle.cli_commands.specs.Input.{line_form, section_form}
 use Rattle.cli_audit.specs.Receipt.{ReceiptCause}
 use Rattle.cli_audit.specs.Replay.{ReplayCause}
@@ -23,10 +24,14 @@ use Rattle.cli_audit.specs.Wanted.TheVariants as wanted
 abbrev pub HasCause : Status → (List ℕ → List ℕ) → Option Command → Option (List ℕ) → Option Names
     → Type 0 → Type 0 → Type 0 → Type 0
 HasCause status h None input names source vault sink = (status ≡ Words) ⊎ (status ≡ Memory)
-HasCause status h (Some (Step save how)) input names source vault sink =
+HasCause status h (Some (Step save None how)) input names source vault sink =
     InputCause line_form status input source vault sink
-HasCause status h (Some (Run save how)) input names source vault sink =
+HasCause status h (Some (Step save (Some journal) how)) input names source vault sink =
+    CauseBehind line_form status journal names input source vault sink
+HasCause status h (Some (Run save None how)) input names source vault sink =
     InputCause section_form status input source vault sink
+HasCause status h (Some (Run save (Some journal) how)) input names source vault sink =
+    CauseBehind section_form status journal names input source vault sink
 HasCause status h (Some (Verify image digests workers)) input names source vault sink =
     VerifyCause status h image digests names vault sink
 HasCause status h (Some (Replay journal save)) input names source vault sink =

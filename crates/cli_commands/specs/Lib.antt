@@ -2,6 +2,7 @@ pub mod Answer
 pub mod Calls
 pub mod Cause
 pub mod Generated
+pub mod GoesOn
 pub mod Input
 pub mod Run
 pub mod Words

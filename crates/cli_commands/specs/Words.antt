@@ -1,5 +1,5 @@
 -- What is so of the command that words say.
-use Rattle.std.specs.Prelude.{ℕ, Bool, true, false, List, Option, Some}
+use Rattle.std.specs.Prelude.{ℕ, Bool, true, false, List, Option, Some, None}
 use Rattle.cli_words.specs.Commands.{Command, Settings, Step, Run, Verify, Extract, Replay, Upgrade, Gen, Receipt, Join, Check, AsOf, Help, Version}
 use Rattle.cli_words.specs.Help.{help_of}
 use Rattle.cli_words.specs.declared.help.TheConstants.{VERSION}
@@ -8,15 +8,25 @@ use Rattle.cli_words.specs.declared.part.Part.TheVariants as shown
 use Rattle.cli_audit.specs.Wanted.{Wanted}
 use Rattle.cli_audit.specs.Wanted.TheVariants as wanted
 
--- what is so of the name that `step` is given, and of its settings
+-- what is so of the name that `step` is given, and of its settings, where it goes on from no journal
 abbrev pub OfStep : Option Command → (List ℕ → Settings → Type 0) → Type 0
-OfStep (Some (Step save how)) P = P save how
+OfStep (Some (Step save None how)) P = P save how
 OfStep words P = Unit {0}
 
--- what is so of the name that `run` is given, and of its settings
+-- what is so of the name that `run` is given, and of its settings, where it goes on from no journal
 abbrev pub OfRun : Option Command → (List ℕ → Settings → Type 0) → Type 0
-OfRun (Some (Run save how)) P = P save how
+OfRun (Some (Run save None how)) P = P save how
 OfRun words P = Unit {0}
+
+-- what is so of the name that `step` is given, of that of the journal from which it goes on, and of its settings
+abbrev pub OfStepFrom : Option Command → (List ℕ → List ℕ → Settings → Type 0) → Type 0
+OfStepFrom (Some (Step save (Some journal) how)) P = P save journal how
+OfStepFrom words P = Unit {0}
+
+-- what is so of the name that `run` is given, of that of the journal from which it goes on, and of its settings
+abbrev pub OfRunFrom : Option Command → (List ℕ → List ℕ → Settings → Type 0) → Type 0
+OfRunFrom (Some (Run save (Some journal) how)) P = P save journal how
+OfRunFrom words P = Unit {0}
 
 -- what is so of the names that `verify` is given; the number of workers changes nothing that it says
 abbrev pub OfVerify : Option Command → (List ℕ → List ℕ → Type 0) → Type 0
@@ -74,15 +84,15 @@ OfTell words P = Unit {0}
 
 -- the command reads the input
 abbrev pub reads_input : Option Command → Bool
-reads_input (Some (Step save how)) = true
-reads_input (Some (Run save how)) = true
+reads_input (Some (Step save journal how)) = true
+reads_input (Some (Run save journal how)) = true
 reads_input (Some (AsOf image n digests)) = true
 reads_input words = false
 
 -- the command puts files
 abbrev pub puts_files : Option Command → Bool
-puts_files (Some (Step save how)) = true
-puts_files (Some (Run save how)) = true
+puts_files (Some (Step save journal how)) = true
+puts_files (Some (Run save journal how)) = true
 puts_files (Some (Replay journal save)) = true
 puts_files (Some (Upgrade image save)) = true
 puts_files (Some (Receipt image digests tx part save)) = true

@@ -4,8 +4,11 @@
 mod generate;
 mod part;
 mod run;
+mod run_from;
 mod saved;
+mod start;
 mod step;
+mod step_from;
 mod top;
 
 pub use cli_audit::{INPUT_LIMIT, Status};

@@ -29,7 +29,7 @@ use std::thread::Threads;
 use workload_run::run_all;
 
 /// The plan that the input says. Where a line lacks its form, that is said before the sessions are counted.
-fn run_sections_of<'a>(alloc: Global, input: &'a [u8]) -> Result<RunSections<'a>, Status>
+pub(crate) fn run_sections_of<'a>(alloc: Global, input: &'a [u8]) -> Result<RunSections<'a>, Status>
     requires { length input.now ≤ input_limit }
     ensures says { IfOk result (λ all_sections. Says section_form input.now (run_sections_view all_sections)) }
     ensures names { IfOk result

@@ -26,13 +26,13 @@ use std::alloc::Global;
 
 /// The statements of an input by line, and the names of their sessions by first appearance.
 #[derive(Drop)]
-struct Input<'a> {
-    lines: Vec<Line<'a>>,
-    sessions: Vec<&'a str>,
+pub(crate) struct Input<'a> {
+    pub lines: Vec<Line<'a>>,
+    pub sessions: Vec<&'a str>,
 }
 
 /// The statements of the input. Where a line lacks its form, that is said before the sessions are counted.
-fn statements<'a>(alloc: Global, input: &'a [u8]) -> Result<Input<'a>, Status>
+pub(crate) fn statements<'a>(alloc: Global, input: &'a [u8]) -> Result<Input<'a>, Status>
     requires { length input.now ≤ input_limit }
     ensures has { IfOk result (λ s. Says line_form input.now (map seen s.lines.items)) }
     ensures names { IfOk result (λ s. All (λ l. is_session_name l.session.now ≡ true) s.lines.items) }

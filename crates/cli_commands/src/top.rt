@@ -5,7 +5,8 @@ ghost use Rattle.sha2.specs.Sha256.{sha256};
 ghost use Rattle.base_io.specs.Count.{Rises};
 ghost use Rattle.base_io.specs.History.{Since};
 ghost use Rattle.cli_words.specs.Commands.{command_of};
-ghost use Rattle.cli_commands.specs.Words.{OfStep, OfRun, OfVerify, OfReplay, OfUpgrade, OfExtract, OfGen, OfTell};
+ghost use Rattle.cli_commands.specs.Words.{OfStep, OfStepFrom, OfRun, OfRunFrom};
+ghost use Rattle.cli_commands.specs.Words.{OfVerify, OfReplay, OfUpgrade, OfExtract, OfGen, OfTell};
 ghost use Rattle.cli_commands.specs.Words.{OfReceipt, OfCheck, OfAsOf};
 ghost use Rattle.cli_audit.specs.AsOf.{AreReadsBehind, HasReadBehind, SaysAnswers};
 ghost use Rattle.cli_commands.specs.Words.{reads_input, puts_files};
@@ -17,9 +18,11 @@ ghost use Rattle.cli_commands.specs.Cause.{HasCause};
 ghost use Rattle.cli_audit.specs.Check.{Checks, ShowsClaim};
 ghost use Rattle.cli_audit.specs.Extract.{Extracts};
 ghost use Rattle.cli_commands.specs.Generated.{HasGenerated};
+ghost use Rattle.cli_commands.specs.GoesOn.{LinesComeToBehind, SectionsComeToBehind};
 ghost use Rattle.cli_commands.specs.Input.{line_form, section_form};
 ghost use Rattle.cli_audit.specs.Receipt.{Receipted, SaysNo, ReceiptedOrIdle, PutsReceipt};
-ghost use Rattle.cli_audit.specs.Replay.{SavesReplay, ReplayedOrIdle, PutsAccepted};
+ghost use Rattle.cli_audit.specs.Past.{AreReadsBehindPast, HasReadBehindPast};
+ghost use Rattle.cli_audit.specs.Replay.{JournalUnder, SavesReplay, ReplayedOrIdle, PutsAccepted};
 ghost use Rattle.cli_commands.specs.Run.{LinesComeTo, SectionsComeTo};
 ghost use Rattle.cli_audit.specs.Tell.{HasTold};
 ghost use Rattle.cli_audit.specs.Upgrade.{Upgraded, UpgradedOrIdle, PutsTheSame};
@@ -28,7 +31,9 @@ ghost use Rattle.cli_audit.specs.Verify.{SaysVerdict, SaidOrIdle};
 use crate::generate::generate;
 use crate::part::receipt_of_part;
 use crate::run::run_side_by_side;
+use crate::run_from::run_from;
 use crate::step::step;
+use crate::step_from::step_from;
 use base_io::{Clock, Gate, Sink, Source, Vault};
 use base_merkle::Sha256Hash;
 use base_types::Memory;
@@ -54,6 +59,13 @@ use std::thread::Threads;
 /// closed in it.
 /// `--block-size N` says how many transactions a block has, `--clock T` at which moment all is done, and
 /// `--database D` the name of the database.
+///
+/// With `--from JOURNAL` the database isn't empty: what stands under the name of a journal, as `step` and `run` save
+/// one, is run again, as `replay` does, and the sessions go on from what that leads to, of the database that it names.
+/// All that is promised of a run holds behind that past: ids go on above the greatest that the journal has, its
+/// entries, blocks and pending entries stay, the journal that is saved begins with its items, and `verify` says `Yes`
+/// of each image with every digest that was ever issued of its blocks. Blocks that are full by `--block-size` are closed
+/// first. `--database` beside it is refused as words.
 ///
 /// `run --save NAME` reads an input of sections: behind a line `-- setup` the statements of a session
 /// `setup`, and behind each line `-- session S` those of the session S. It runs the setup to its end, and
@@ -128,7 +140,9 @@ use std::thread::Threads;
 ///
 /// Only `run`, `gen` and `verify` with more than one worker start threads, and only `run` calls the gate.
 ///
-/// `Words` comes before anything else, and so does want of memory for the words. Of `step` and `run`, `Limit`
+/// `Words` comes before anything else, and so does want of memory for the words. Where `step` or `run` goes on from a
+/// journal, the name is looked at next, whether it is there and then how long, then whether the bytes are those of a
+/// journal, and whether that is legal and a server's; all this before the input is read. Of `step` and `run`, `Limit`
 /// and `Form` come before anything is put; the size of the input is looked at first, then the form of all
 /// lines, and then the number of sessions. After `VaultFault` the files before the one that failed stand, its
 /// name is open, and nothing was written; after `Memory` the first of the files may stand. After `SinkFault`
@@ -184,6 +198,28 @@ pub fn ledgerd<S: Source, K: Sink, V: Vault, C: Clock, G: Gate, R: Threads + Wai
         (RanAndSaved result section_form (SectionsComeTo sha256 settings (C.says clock.now)) save (S.left source.old)
         (V.names vault.old) (V.names vault.new) (K.taken sink.old) (K.taken sink.new))
         ((vault.new ≡ vault.old) × (sink.new ≡ sink.old))) }
+
+    // `step` and `run` that go on from the journal under a name: the same behind the past that this journal is. What
+    // is saved begins with its items, and `verify` says Yes of each image with every digest that was ever issued of
+    // blocks which it closed.
+    ensures read_behind { OfStepFrom (command_of (map string_bytes words.now))
+        (λ save journal settings. IfSome (S.left source.old)
+        (λ input. HasReadBehindPast result input (S.left source.new))) }
+    ensures ran_behind { OfStepFrom (command_of (map string_bytes words.now))
+        (λ save journal settings. ReplayedOrIdle result
+        (JournalUnder journal (V.names vault.old) (λ J. RanAndSaved result line_form
+        (LinesComeToBehind sha256 settings (C.says clock.now) J) save (S.left source.old)
+        (V.names vault.old) (V.names vault.new) (K.taken sink.old) (K.taken sink.new)))
+        ((V.names vault.new ≡ V.names vault.old) × (sink.new ≡ sink.old))) }
+    ensures read_sections_behind { OfRunFrom (command_of (map string_bytes words.now))
+        (λ save journal settings. IfSome (S.left source.old)
+        (λ input. HasReadBehindPast result input (S.left source.new))) }
+    ensures ran_all_behind { OfRunFrom (command_of (map string_bytes words.now))
+        (λ save journal settings. ReplayedOrIdle result
+        (JournalUnder journal (V.names vault.old) (λ J. RanAndSaved result section_form
+        (SectionsComeToBehind sha256 settings (C.says clock.now) J) save (S.left source.old)
+        (V.names vault.old) (V.names vault.new) (K.taken sink.old) (K.taken sink.new)))
+        ((V.names vault.new ≡ V.names vault.old) × (sink.new ≡ sink.old))) }
 
     // `verify`: the line of the verdict on what stands under the names, by the status.
     ensures verified { OfVerify (command_of (map string_bytes words.now))
@@ -267,6 +303,10 @@ pub fn ledgerd<S: Source, K: Sink, V: Vault, C: Clock, G: Gate, R: Threads + Wai
         (λ save settings. Since (S.history source.old) (S.history source.new) (AreReads result)) }
     ensures reads_sections { OfRun (command_of (map string_bytes words.now))
         (λ save settings. Since (S.history source.old) (S.history source.new) (AreReads result)) }
+    ensures reads_behind { OfStepFrom (command_of (map string_bytes words.now))
+        (λ save journal settings. Since (S.history source.old) (S.history source.new) (AreReadsBehindPast result)) }
+    ensures reads_sections_behind { OfRunFrom (command_of (map string_bytes words.now))
+        (λ save journal settings. Since (S.history source.old) (S.history source.new) (AreReadsBehindPast result)) }
     ensures reads_texts { OfAsOf (command_of (map string_bytes words.now))
         (λ image n digests. Since (S.history source.old) (S.history source.new) (AreReadsBehind result)) }
     ensures calls { Since (V.history vault.old) (V.history vault.new)
@@ -287,14 +327,40 @@ pub fn ledgerd<S: Source, K: Sink, V: Vault, C: Clock, G: Gate, R: Threads + Wai
         Err(Memory) => return Status::Memory,
     };
     match command {
-        Command::Step { save, settings } => {
+        Command::Step {
+            save,
+            from: None,
+            settings,
+        } => {
             step(
                 alloc, Sha256Hash, save, settings, source, sink, vault, clock,
             )
         }
-        Command::Run { save, settings } => {
+        Command::Step {
+            save,
+            from: Some(journal),
+            settings,
+        } => {
+            step_from(
+                alloc, Sha256Hash, save, journal, settings, source, sink, vault, clock,
+            )
+        }
+        Command::Run {
+            save,
+            from: None,
+            settings,
+        } => {
             run_side_by_side(
                 rt, alloc, Sha256Hash, save, settings, source, sink, vault, clock, gate,
+            )
+        }
+        Command::Run {
+            save,
+            from: Some(journal),
+            settings,
+        } => {
+            run_from(
+                rt, alloc, Sha256Hash, save, journal, settings, source, sink, vault, clock, gate,
             )
         }
         Command::Verify {

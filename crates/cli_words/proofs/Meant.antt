@@ -7,7 +7,7 @@ use Rattle.clap.specs.Words.{fault_of, matches_of, rows_of, found_of, first_valu
 use Rattle.clap.specs.declared.parser.matches.ArgMatches.{ArgMatches}
 use Rattle.clap.proofs.WalkLemmas.{first_value-rows, list_any-map}
 use Rattle.cli_words.specs.Line.{Text, Use, uses_of, ◌>>=◌}
-use Rattle.cli_words.specs.Commands.{given, has_dashes, settings, part, meaning_of, arguments_of}
+use Rattle.cli_words.specs.Commands.{given, has_dashes, settings, past_journal, part, meaning_of, arguments_of}
 use Rattle.cli_words.specs.Shapes.{Matched, Finds, app_for}
 use Rattle.cli_words.specs.Subcommands.{operands_of, options_of}
 use Rattle.cli_words.specs.declared.subcommand.Subcommand.{Subcommand}
@@ -52,14 +52,18 @@ settings_same : (f g : Text → Option Text) → ((t : Text) → f t ≡ g t) �
 unfolding settings
 settings_same f g h = rw (h (codes "block-size"), h (codes "clock"), h (codes "database")) refl
 
+past_journal_same : (f g : Text → Option Text) → ((t : Text) → f t ≡ g t) → past_journal f ≡ past_journal g
+unfolding past_journal
+past_journal_same f g h = rw (h (codes "from"), h (codes "database")) refl
+
 part_same : (f g : Text → Option Text) → ((t : Text) → f t ≡ g t) → part f ≡ part g
 unfolding part
 part_same f g h = rw (h (codes "table"), h (codes "event")) refl
 
 same : (which : Subcommand) (f g : Text → Option Text) → ((t : Text) → f t ≡ g t) → meaning_of which f ≡ meaning_of which g
 unfolding meaning_of
-same Step f g h = rw (h (codes "save"), settings_same f g h) refl
-same Run f g h = rw (h (codes "save"), settings_same f g h) refl
+same Step f g h = rw (h (codes "save"), past_journal_same f g h, settings_same f g h) refl
+same Run f g h = rw (h (codes "save"), past_journal_same f g h, settings_same f g h) refl
 same Verify f g h = rw (h (codes "IMAGE"), h (codes "DIGESTS"), h (codes "workers")) refl
 same Extract f g h = rw (h (codes "HONEST"), h (codes "SUSPECT"), h (codes "DIGESTS")) refl
 same Replay f g h = rw (h (codes "JOURNAL"), h (codes "save")) refl

@@ -5,7 +5,7 @@ use Rattle.std.specs.Str.{bytes_eq}
 use Rattle.std.proofs.lemmas.Bool.Decides.{nat_tests}
 use Rattle.base_types.specs.DatabaseName.{is_database_name}
 use Rattle.base_types.specs.declared.moment.TheConstants.{MAX_TICKS}
-use Rattle.cli_words.specs.Commands.{Settings, AreInRange, IsInRange, Command, Step, Run, Verify, Extract, Replay, Upgrade, Gen, Receipt, Join, Check, AsOf, IsPartInRange, given, settings, part_from, part, meaning_of, has_dashes, arguments_of, asks_help, alone, help_on, others, behind, command_of}
+use Rattle.cli_words.specs.Commands.{Settings, AreInRange, IsInRange, Command, Step, Run, Verify, Extract, Replay, Upgrade, Gen, Receipt, Join, Check, AsOf, IsPartInRange, given, settings, past_journal, part_from, part, meaning_of, has_dashes, arguments_of, asks_help, alone, help_on, others, behind, command_of}
 use Rattle.cli_words.specs.Commands as said
 use Rattle.cli_words.specs.Forms.{is_number, number_from, number_in, database_name, file_name, save_name, or_default, if_given}
 use Rattle.cli_words.specs.Line.{Text, uses_of, ◌>>=◌}
@@ -131,11 +131,13 @@ is_some c d range e = some_range c d (inner c d e) range
 has_range : (w : Subcommand) (value : Text → Option Text) (c : Command) → meaning_of w value ≡ Some c → IsInRange c
 unfolding meaning_of
 has_range which.Step value =
-    every (value (codes "save") >>= save_name) (λ save. settings value >>= λ how. Some (Step save how)) IsInRange
-    (λ save is. every (settings value) (λ how. Some (Step save how)) IsInRange (λ how said d. is_some (Step save how) d (in_range value how said)))
+    every (value (codes "save") >>= save_name) (λ save. past_journal value >>= λ journal. settings value >>= λ how. Some (Step save journal how)) IsInRange
+    (λ save is. every (past_journal value) (λ journal. settings value >>= λ how. Some (Step save journal how)) IsInRange
+    (λ journal given. every (settings value) (λ how. Some (Step save journal how)) IsInRange (λ how said d. is_some (Step save journal how) d (in_range value how said))))
 has_range which.Run value =
-    every (value (codes "save") >>= save_name) (λ save. settings value >>= λ how. Some (Run save how)) IsInRange
-    (λ save is. every (settings value) (λ how. Some (Run save how)) IsInRange (λ how said d. is_some (Run save how) d (in_range value how said)))
+    every (value (codes "save") >>= save_name) (λ save. past_journal value >>= λ journal. settings value >>= λ how. Some (Run save journal how)) IsInRange
+    (λ save is. every (past_journal value) (λ journal. settings value >>= λ how. Some (Run save journal how)) IsInRange
+    (λ journal given. every (settings value) (λ how. Some (Run save journal how)) IsInRange (λ how said d. is_some (Run save journal how) d (in_range value how said))))
 has_range which.Verify value =
     every (value (codes "IMAGE") >>= file_name) (λ image. value (codes "DIGESTS") >>= file_name >>= λ digests. or_default 1 (number_in 1 16) (value (codes "workers")) >>= λ workers. Some (Verify image digests workers)) IsInRange
     (λ image is. every (value (codes "DIGESTS") >>= file_name) (λ digests. or_default 1 (number_in 1 16) (value (codes "workers")) >>= λ workers. Some (Verify image digests workers)) IsInRange

@@ -9,8 +9,8 @@ use Rattle.cli_words.specs.declared.subcommand.Subcommand.TheVariants.{Step, Run
 use Rattle.cli_words.proofs.Spelled.{AreNames, IsOptionName, each_name, complete, sound}
 
 option_names : (which : Subcommand) → AreNames (options_of which)
-option_names Step = ((omega arith, refl), ((omega arith, refl), ((omega arith, refl), ((omega arith, refl), tt))))
-option_names Run = ((omega arith, refl), ((omega arith, refl), ((omega arith, refl), ((omega arith, refl), tt))))
+option_names Step = ((omega arith, refl), ((omega arith, refl), ((omega arith, refl), ((omega arith, refl), ((omega arith, refl), tt)))))
+option_names Run = ((omega arith, refl), ((omega arith, refl), ((omega arith, refl), ((omega arith, refl), ((omega arith, refl), tt)))))
 option_names Verify = ((omega arith, refl), tt)
 option_names Extract = tt
 option_names Replay = ((omega arith, refl), tt)

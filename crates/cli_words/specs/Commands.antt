@@ -1,5 +1,5 @@
 -- What the words after the program's name say.
-use Rattle.std.specs.Prelude.{ℕ, ◌≡◌, ◌≤◌, Bool, true, false, ◌||◌, List, [], ◌∷◌, codes, Option, Some, None, IfSome, if◌then◌else◌, bytes_eq, find, option_map}
+use Rattle.std.specs.Prelude.{ℕ, ◌≡◌, ◌≤◌, Bool, true, false, ◌||◌, ◌&&◌, is_some, List, [], ◌∷◌, codes, Option, Some, None, IfSome, if◌then◌else◌, bytes_eq, find, option_map}
 use Rattle.std.specs.List.{list_any}
 use Rattle.base_types.specs.DatabaseName.{is_database_name}
 use Rattle.base_types.specs.declared.moment.TheConstants.{MAX_TICKS}
@@ -28,9 +28,10 @@ pub record AreInRange (how : Settings) : Type 0 where
   pub database : is_database_name how.database ≡ true
 
 pub data Command : Type 0 where
-  -- the name that the files are saved under
-  Step : Text → Settings → Command
-  Run : Text → Settings → Command
+  -- the name that the files are saved under, and that of the journal that the database goes on from, where one is
+  -- given
+  Step : Text → Option Text → Settings → Command
+  Run : Text → Option Text → Settings → Command
   -- the names of an image and of digests, and how many workers look
   Verify : Text → Text → ℕ → Command
   -- the names of an honest image, of one that is suspected, and of digests
@@ -61,8 +62,8 @@ IsPartInRange (shown.Event id number) = (1 ≤ id) × (id ≤ MAX_TABLE) × (num
 
 -- its values have their ranges
 abbrev pub IsInRange : Command → Type 0
-IsInRange (Step save how) = AreInRange how
-IsInRange (Run save how) = AreInRange how
+IsInRange (Step save journal how) = AreInRange how
+IsInRange (Run save journal how) = AreInRange how
 IsInRange (Verify image digests workers) = (1 ≤ workers) × (workers ≤ 16)
 IsInRange (Gen count) = (1 ≤ count) × (count ≤ 10000)
 IsInRange (Receipt image digests tx part save) = (1 ≤ tx) × (tx ≤ MAX_TX) × IsPartInRange part
@@ -81,6 +82,12 @@ settings value =
     or_default (codes "LedgerDB") database_name (value (codes "database")) >>= λ database.
     Some (record { block_size = size; clock = clock; database = database })
 
+-- `[--from JOURNAL]`: the journal says the name of the database, so that `--database` isn't given beside it
+unfoldable pub past_journal : (Text → Option Text) → Option (Option Text)
+past_journal value =
+    if_given file_name (value (codes "from")) >>= λ journal.
+    if is_some journal && is_some (value (codes "database")) then None else Some journal
+
 -- an event is shown of a table alone
 abbrev pub part_from : Option ℕ → Option ℕ → Option Part
 part_from None None = Some shown.Entry
@@ -98,9 +105,9 @@ part value =
 -- what the values under the names of its operands and options say; none where one of them lacks its form
 unfoldable pub meaning_of : Subcommand → (Text → Option Text) → Option Command
 meaning_of which.Step value = value (codes "save") >>= save_name >>= λ save.
-    settings value >>= λ how. Some (Step save how)
+    past_journal value >>= λ journal. settings value >>= λ how. Some (Step save journal how)
 meaning_of which.Run value = value (codes "save") >>= save_name >>= λ save.
-    settings value >>= λ how. Some (Run save how)
+    past_journal value >>= λ journal. settings value >>= λ how. Some (Run save journal how)
 meaning_of which.Verify value = value (codes "IMAGE") >>= file_name >>= λ image.
     value (codes "DIGESTS") >>= file_name >>= λ digests.
     or_default 1 (number_in 1 16) (value (codes "workers")) >>= λ workers.

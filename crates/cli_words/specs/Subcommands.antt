@@ -33,8 +33,8 @@ operands_of AsOf = codes "IMAGE" ∷ codes "N" ∷ []
 
 -- the names of its options
 abbrev pub options_of : Subcommand → List Text
-options_of Step = codes "save" ∷ codes "block-size" ∷ codes "clock" ∷ codes "database" ∷ []
-options_of Run = codes "save" ∷ codes "block-size" ∷ codes "clock" ∷ codes "database" ∷ []
+options_of Step = codes "save" ∷ codes "from" ∷ codes "block-size" ∷ codes "clock" ∷ codes "database" ∷ []
+options_of Run = codes "save" ∷ codes "from" ∷ codes "block-size" ∷ codes "clock" ∷ codes "database" ∷ []
 options_of Verify = codes "workers" ∷ []
 options_of Extract = []
 options_of Replay = codes "save" ∷ []

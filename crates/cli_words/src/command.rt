@@ -25,12 +25,16 @@ pub enum Command<'a> {
     Step {
         /// The name that the files are saved under.
         save: &'a str,
+        /// The name of the journal that the database goes on from, where one is given.
+        from: Option<&'a str>,
         settings: Settings<'a>,
     },
     /// Runs an input with a thread for each session and saves its files.
     Run {
         /// The name that the files are saved under.
         save: &'a str,
+        /// The name of the journal that the database goes on from, where one is given.
+        from: Option<&'a str>,
         settings: Settings<'a>,
     },
     /// Says the verdict on an image.
@@ -128,14 +132,32 @@ fn settings_of<'a>(matches: &ArgMatches<'a>) -> Option<Settings<'a>>
     })
 }
 
+/// The name of the journal that the database goes on from, where one is given; none where the name of the database
+/// stands beside it, which the journal says.
+#[tactic(auto, unfolding(crate::specs::Commands::past_journal))]
+fn from_of<'a>(matches: &ArgMatches<'a>) -> Option<Option<&'a str>>
+    ensures { option_map option_copied result ≡ spec.past_journal (first_value (found_of matches.now)) }
+{
+    let journal = file_name_if_given(matches.get_str("from"))?;
+    match (journal, matches.get_str("database")) {
+        (Some(_), Some(_)) => None,
+        (journal, _) => Some(journal),
+    }
+}
+
 #[tactic(auto, unfolding(crate::specs::Commands::meaning_of))]
 fn step_of<'a>(matches: &ArgMatches<'a>) -> Option<Command<'a>>
     ensures { option_map command_view result
         ≡ spec.meaning_of Subcommand.Step (first_value (found_of matches.now)) }
 {
     let save = save_name(matches.get_str("save")?)?;
+    let from = from_of(matches)?;
     let settings = settings_of(matches)?;
-    Some(Command::Step { save, settings })
+    Some(Command::Step {
+        save,
+        from,
+        settings,
+    })
 }
 
 #[tactic(auto, unfolding(crate::specs::Commands::meaning_of))]
@@ -144,8 +166,13 @@ fn run_of<'a>(matches: &ArgMatches<'a>) -> Option<Command<'a>>
         ≡ spec.meaning_of Subcommand.Run (first_value (found_of matches.now)) }
 {
     let save = save_name(matches.get_str("save")?)?;
+    let from = from_of(matches)?;
     let settings = settings_of(matches)?;
-    Some(Command::Run { save, settings })
+    Some(Command::Run {
+        save,
+        from,
+        settings,
+    })
 }
 
 #[tactic(auto, unfolding(crate::specs::Commands::meaning_of))]

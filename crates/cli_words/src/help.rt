@@ -6,8 +6,8 @@ use crate::subcommand::Subcommand;
 
 /// What stands on standard error where the words were refused.
 pub const USAGE: &str = "usage: ledgerd [--quiet] COMMAND, which is one of these:
-       step --save NAME [--block-size N] [--clock T] [--database D]
-       run --save NAME [--block-size N] [--clock T] [--database D]
+       step --save NAME [--from J | --database D] [--block-size N] [--clock T]
+       run --save NAME [--from J | --database D] [--block-size N] [--clock T]
        verify IMAGE DIGESTS [--workers W]
        extract HONEST SUSPECT DIGESTS
        replay JOURNAL --save NAME
@@ -29,9 +29,12 @@ pub const HELP: &str = "ledgerd runs statements over ledger tables in memory, an
 them.
 
   ledgerd [--quiet] COMMAND     does one of these, with what it is given:
-  ledgerd step --save NAME      runs statements of sessions, one after another,
-                                and saves what is left
-  ledgerd run --save NAME       runs sessions side by side, and saves the same
+  ledgerd step --save NAME [--from JOURNAL]
+                                runs statements of sessions, one after another,
+                                and saves what is left; behind the transactions
+                                of an earlier journal, where one is given
+  ledgerd run --save NAME [--from JOURNAL]
+                                runs sessions side by side, and saves the same
   ledgerd verify IMAGE DIGESTS  says whether an image and digests hold together
   ledgerd extract HONEST SUSPECT DIGESTS
                                 says what two images are to each other
@@ -85,7 +88,8 @@ Example, from the top of the repository:
 
 /// Help on `step`.
 pub const STEP_HELP: &str =
-    "ledgerd [--quiet] step --save NAME [--block-size N] [--clock T] [--database D]
+    "ledgerd [--quiet] step --save NAME [--from J | --database D] [--block-size N]
+                       [--clock T]
 
 Runs the statements of standard input, `session: statement` on each line, one
 after another, and prints what each was answered. It puts in the current folder
@@ -93,6 +97,9 @@ NAME-m.img for each number m that a SAVE IMAGE answered, the image of the first
 m items of the journal; NAME.img, the image of the whole; NAME.digests, the
 digests; and NAME.journal, what was committed, with the replies. What stands
 under these names is replaced.
+J is an earlier journal, which is run again first: the database goes on from its
+end, and NAME.journal begins with its items. The name of the database is the
+journal's, so that D isn't given beside J.
 N is the number of a block's transactions, 1 to 100,000; 100,000 where it isn't
 said. T is the moment of all that is done, in ticks of 100 nanoseconds since
 1970; the clock says it where it isn't given. D is the name of the database, 1
@@ -118,7 +125,8 @@ Example, from the top of the repository:
 
 /// Help on `run`.
 pub const RUN_HELP: &str =
-    "ledgerd [--quiet] run --save NAME [--block-size N] [--clock T] [--database D]
+    "ledgerd [--quiet] run --save NAME [--from J | --database D] [--block-size N]
+                      [--clock T]
 
 Runs the sections of standard input and prints what their statements were
 answered. The lines behind `-- setup`, the first section, are run first, in
@@ -127,8 +135,8 @@ thread of its own beside the others, while another thread closes blocks. A
 session `-- snapshot S` keeps an image, over which the SELECTs behind that line
 are answered, as by `asof`. Any other line that begins with `--` is a comment.
 It puts in the current folder the files that `step` puts: NAME-m.img for each
-number m that a SAVE IMAGE answered, NAME.img, NAME.digests and NAME.journal. N,
-T and D are those of `step`.
+number m that a SAVE IMAGE answered, NAME.img, NAME.digests and NAME.journal. J,
+N, T and D are those of `step`.
 
 A refused statement is answered with a code; docs/SQL.md has an example of each
 and its cure:

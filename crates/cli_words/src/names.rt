@@ -10,6 +10,8 @@ pub fn name_read<'a>(command: Command<'a>, number: u8) -> Option<&'a str>
     ensures { option_copied result ≡ name_read (command_view command.entry) number }
 {
     match (command, number) {
+        (Command::Step { from, .. }, 1) => from,
+        (Command::Run { from, .. }, 1) => from,
         (Command::Verify { image, .. }, 1) => Some(image),
         (Command::Verify { digests, .. }, 2) => Some(digests),
         (Command::Extract { honest, .. }, 1) => Some(honest),

@@ -31,6 +31,8 @@ enum Fault {
     TooMany,
     /// A path stands in the place of a name.
     Path,
+    /// It stands beside `--from`, whose journal says it.
+    BesideJournal,
     /// It lacks the form of a value.
     Form(Form),
 }
@@ -221,6 +223,9 @@ fn missing<'a>(which: Subcommand, words: &[String], scan: &Scan<'a>) -> Option<R
     if has_option(which, "save") && !is_given(words, "save") {
         return of_option("save", Fault::NotGiven);
     }
+    if is_given(words, "from") && is_given(words, "database") {
+        return of_option("database", Fault::BesideJournal);
+    }
     if is_given(words, "event") && !is_given(words, "table") {
         return of_option("table", Fault::NotGiven);
     }
@@ -291,6 +296,7 @@ impl fmt::Display for Fault {
             Fault::GivenTwice => f.write_str("given twice"),
             Fault::TooMany => f.write_str("one word too many"),
             Fault::Path => f.write_str("files are those of the current folder, by name"),
+            Fault::BesideJournal => f.write_str("given beside `--from`, whose journal says it"),
             Fault::Form(form) => write!(f, "{form}"),
         }
     }

@@ -92,7 +92,9 @@ impl Subcommand {
         ensures { map (λ name. name.now) result.now ≡ options_of self }
     {
         match self {
-            Subcommand::Step | Subcommand::Run => &["save", "block-size", "clock", "database"],
+            Subcommand::Step | Subcommand::Run => {
+                &["save", "from", "block-size", "clock", "database"]
+            }
             Subcommand::Verify => &["workers"],
             Subcommand::Replay | Subcommand::Upgrade | Subcommand::Join => &["save"],
             Subcommand::Receipt => &["save", "table", "event"],

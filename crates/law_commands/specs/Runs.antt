@@ -7,8 +7,11 @@ use Rattle.format_lines.specs.Sessions.{sessions_of}
 use Rattle.format_sections.specs.RunSections.{RunSections, Section, statements_run}
 use Rattle.law_headline.specs.LastImage.{last_image_bytes}
 use Rattle.server_result.specs.declared.ran.RunOutcome.{RunOutcome as Output}
+use Rattle.law_behind.specs.Past.{Past}
 use Rattle.law_headline.specs.Before.{InOneOrder, InOrderOfLines}
+use Rattle.law_headline.specs.BeforeBehind.{InOneOrderBehind, InOrderOfLinesBehind}
 use Rattle.law_headline.specs.Headline.{Headline, Saved}
+use Rattle.law_headline.specs.HeadlineBehind.{HeadlineBehind}
 
 abbrev pub saved_of : List Transcript → Output → Saved
 saved_of X o = record { X = X; images = o.images; J = o.journal; G = o.digests }
@@ -38,3 +41,15 @@ LinesKeepHeadline h size statements X o =
 abbrev pub SectionsKeepHeadline : (List ℕ → List ℕ) → RunSections → List Transcript → Output → Type 0
 SectionsKeepHeadline h all_sections X o =
     HasLastImage h o × Headline h (input_of all_sections) (Some 0) (InOneOrder X o.journal.items) (saved_of X o)
+
+-- so it is of a run that goes on from a journal, behind this past
+abbrev pub LinesKeepHeadlineBehind : (List ℕ → List ℕ) → ℕ → Past → List Statement → List Transcript → Output
+    → Type 0
+LinesKeepHeadlineBehind h size past statements X o =
+    HasLastImage h o × HeadlineBehind h past (sessions_in (lines_of statements) (sessions_of statements)) None
+    (InOrderOfLinesBehind size past (lines_of statements) X o.journal.items) (saved_of X o)
+
+abbrev pub SectionsKeepHeadlineBehind : (List ℕ → List ℕ) → Past → RunSections → List Transcript → Output → Type 0
+SectionsKeepHeadlineBehind h past all_sections X o =
+    HasLastImage h o × HeadlineBehind h past (input_of all_sections) (Some 0)
+    (InOneOrderBehind past X o.journal.items) (saved_of X o)

@@ -10,7 +10,7 @@ use Rattle.sql_types.specs.declared.reply.Reply.{Reply}
 use Rattle.sql_types.specs.declared.reply.Reply.TheVariants as reply
 use Rattle.sql_types.specs.declared.statement.Stmt.{Stmt}
 use Rattle.sql_types.specs.declared.statement.Stmt.TheVariants as stmt
-use Rattle.spec_history.specs.Agree.{Agree, AreStatements, DigestsAreOf, ShowsHash}
+use Rattle.spec_history.specs.Agree.{AreStatements, DigestsAreOf, ShowsHash}
 use Rattle.spec_history.specs.Digests.{one_if, of_block, shows_block, replies_of_block}
 use Rattle.spec_history.specs.Facts.{Fact, began, said, failed, met, placed, passed, over, digest, end_facts, maybe_end, other_facts, answer_facts, own_facts, facts_inside, facts_outside, entry_facts, open_after, facts, facts_of}
 use Rattle.spec_history.specs.InPlace.{Throughout, images_after, ControlledBy, HasItsForm, IsControlled, IsElseNoMemory}
@@ -19,7 +19,7 @@ use Rattle.spec_history.specs.Journals.{blocks}
 use Rattle.spec_history.specs.Lists.{Text, Each, At, sum}
 use Rattle.spec_history.specs.Meaning.{Meaning}
 use Rattle.spec_history.specs.Transcripts.{EndLine, committed_at, ended_after, Entry, statement, end_of_session, Transcript, statements, Kind, unread, begin, commit, roll_back, to_savepoint, create, rows, issue, keep, kind_of}
-use Rattle.law_digests.specs.Issued.{input_bytes, line_bytes}
+use Rattle.law_digests.specs.Issued.{AgreeOnDigests, input_bytes, line_bytes}
 use Rattle.law_digests.proofs.Below.{below, below_same, below_both, below_none, at_most_once, all_counted}
 
 -- ---- what facts show
@@ -242,7 +242,7 @@ pub closed : (q : Meaning) (database : Text) (setup : Option ℕ) (X : List Tran
 closed q database setup X J G are = digests_closed q J X are.shown G (λ b. let same = are.as_many b in omega (arith, same))
 
 pub digests_cost : (q : Meaning) (database : Text) (input : List InputSession) (setup : Option ℕ) (X : List Transcript) (J : List JournalItem) (G : List Digest)
-    → ((text : Text) → q.reads text ≡ Some stmt.Digest → 38 ≤ length text) → Agree q database input setup X J G → length G * 39 ≤ input_bytes input
+    → ((text : Text) → q.reads text ≡ Some stmt.Digest → 38 ≤ length text) → AgreeOnDigests q database input setup X J G → length G * 39 ≤ input_bytes input
 digests_cost q database input setup X J G cost agree =
     let k = blocks J in
     let are = agree.digests_are_the_journals in

@@ -1,4 +1,4 @@
-mod Answered
+pub mod Answered
 mod Below
 mod Issued
 mod Lines

@@ -1,11 +1,12 @@
 -- The digests that a run of an input issued, and the bytes of the input's statements.
-use Rattle.std.specs.Prelude.{ℕ, ◌≡◌, ◌≤◌, ◌<◌, ◌+◌, ◌^◌, true, List, [], ◌∷◌, length, map, codes, Option, Ok}
+use Rattle.std.specs.Prelude.{ℕ, ◌≡◌, ◌≤◌, ◌<◌, ◌+◌, ◌^◌, true, List, [], ◌∷◌, length, map, codes, Option, None, Ok}
 use Rattle.base_types.specs.DatabaseName.{is_database_name}
 use Rattle.sql_types.specs.declared.digest.Digest.{Digest}
 use Rattle.sql_types.specs.declared.journal.JournalItem.{JournalItem}
-use Rattle.spec_history.specs.Agree.{Agree}
+use Rattle.spec_history.specs.Agree.{AreStatements, DigestsAreOf}
+use Rattle.spec_history.specs.InPlace.{IsControlled, IsElseNoMemory, Throughout}
 use Rattle.spec_history.specs.Inputs.{InputLine, InputSession, sessions_in}
-use Rattle.spec_history.specs.Lists.{Text}
+use Rattle.spec_history.specs.Lists.{Text, At}
 use Rattle.spec_history.specs.Meaning.{Meaning}
 use Rattle.spec_history.specs.Transcripts.{Transcript}
 use Rattle.spec_syntax.specs.Text.{statement_of}
@@ -59,13 +60,22 @@ pub record AreSectionsOf (bytes : List ℕ) (all_sections : RunSections) : Type 
 abbrev pub ReadsSo : Meaning → Type 0
 ReadsSo q = (text : Text) → q.reads text ≡ statement_of text
 
+-- The rules of agreement that tell how many digests there are. They are the same where a run goes on from a journal.
+pub record AgreeOnDigests (q : Meaning) (database : Text) (input : List InputSession) (setup : Option ℕ)
+    (X : List Transcript) (J : List JournalItem) (G : List Digest) : Type 0 where
+  pub statements_are_answered : AreStatements input X
+  pub digests_are_the_journals : DigestsAreOf q database setup X J G
+  pub control_is_refused_in_place : (i : ℕ) (x : Transcript) → At X i x
+      → Throughout (IsControlled q) None 0 x.entries
+  pub else_no_memory : (i : ℕ) (x : Transcript) → At X i x → Throughout (IsElseNoMemory q) None 0 x.entries
+
 -- In a run of these sessions these digests were issued, and this is the file of them, from which they are read
 -- again.
 pub record AreIssued (q : Meaning) (database : Text) (input : List InputSession) (setup : Option ℕ)
     (J : List JournalItem) (G : List Digest) (file : List ℕ) : Type 0 where
   pub reads : ReadsSo q
   pub X : List Transcript
-  pub agree : Agree q database input setup X J G
+  pub agree : AgreeOnDigests q database input setup X J G
   pub database_name : is_database_name database ≡ true
   pub count : length J < 2 ^ 64
   pub is_file : IsFile G file

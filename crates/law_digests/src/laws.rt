@@ -4,7 +4,6 @@ ghost use Rattle.std.specs.Prelude.{ℕ, ◌≡◌, ◌≤◌, ◌*◌, List, le
 ghost use Rattle.sql_types.specs.declared.digest.Digest.{Digest};
 ghost use Rattle.sql_types.specs.declared.journal.JournalItem.{JournalItem};
 ghost use Rattle.sql_types.specs.declared.statement.Stmt.TheVariants as stmt;
-ghost use Rattle.spec_history.specs.Agree.{Agree};
 ghost use Rattle.spec_history.specs.Inputs.{InputSession};
 ghost use Rattle.spec_history.specs.Lists.{Text};
 ghost use Rattle.spec_history.specs.Meaning.{Meaning};
@@ -12,7 +11,7 @@ ghost use Rattle.spec_history.specs.Transcripts.{Transcript};
 ghost use Rattle.spec_syntax.specs.Text.{statement_of};
 ghost use Rattle.format_lines.specs.Line.{Statement};
 ghost use Rattle.format_sections.specs.RunSections.{RunSections};
-ghost use Rattle.law_digests.specs.Issued.{AreIssued, AreLinesOf, AreSectionsOf, ReadsSo, input_bytes, sessions_of_lines, sessions_of_sections};
+ghost use Rattle.law_digests.specs.Issued.{AgreeOnDigests, AreIssued, AreLinesOf, AreSectionsOf, ReadsSo, input_bytes, sessions_of_lines, sessions_of_sections};
 ghost use Rattle.law_digests.specs.Size.{digests_limit, least_line};
 
 use crate::inputs::statements_are_within_their_input;
@@ -30,7 +29,8 @@ pub fn digest_statements_have_their_length()
 pub fn digests_are_no_more_than_their_lines()
     ensures { (q : Meaning) (database : Text) (input : List InputSession) (setup : Option ℕ)
         (X : List Transcript) (J : List JournalItem) (G : List Digest)
-        → ReadsSo q → Agree q database input setup X J G → length G * least_line ≤ input_bytes input }
+        → ReadsSo q → AgreeOnDigests q database input setup X J G
+        → length G * least_line ≤ input_bytes input }
 {
     digest_statements_have_their_length();
 }

@@ -7,4 +7,4 @@ mod running;
 
 pub use report::{CountedRun, Report};
 pub use running::{count_run, run_and_count, run_workload};
-pub use server_run::run_all;
+pub use server_run::{run_all, run_all_behind};
