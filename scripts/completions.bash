@@ -6,7 +6,7 @@
 # The options of a command.
 _ledgerd_options() {
     case $1 in
-        step | run) echo --save --block-size --clock --database --help ;;
+        step | run) echo --save --from --block-size --clock --database --help ;;
         verify) echo --workers --help ;;
         receipt) echo --save --table --event --help ;;
         replay | upgrade | join) echo --save --help ;;
