@@ -73,7 +73,6 @@ module _ {H : Type 0} (digest : H → List ℕ → List ℕ) (h : H) where
     id = p.id;
     explicit = p.explicit;
     seq = p.seq;
-    few = p.few;
     trees = p.trees;
     differ = p.differ;
     open_savepoints = p.open_savepoints;

@@ -45,6 +45,7 @@ pub use Rattle.spec_protocol.specs.TableVisits
 pub use Rattle.spec_protocol.specs.TablesAreSerial
 pub use Rattle.spec_protocol.specs.UndoVisits
 pub use Rattle.spec_protocol.specs.Visits
+pub use Rattle.store_tx.specs.LeafHashes
 pub use Rattle.store_tx.specs.Leaves
 pub use Rattle.store_tx.specs.Represents
 pub use Rattle.store_tx.specs.Roots

@@ -271,7 +271,6 @@ module _ {H : Type 0} (digest : H → List ℕ → List ℕ) (y : Seat H) (c : C
         id = run.context.id;
         explicit = run.context.explicit;
         seq = run.context.seq;
-        few = run.context.few;
         trees = run.context.trees;
         differ = run.context.differ;
         open_savepoints = run.context.open_savepoints;

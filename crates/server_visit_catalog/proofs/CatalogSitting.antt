@@ -158,7 +158,6 @@ module _ {H : Type 0} (digest : H → List ℕ → List ℕ) (y : Seat H) (c : C
         id = p.id;
         explicit = p.explicit;
         seq = p.seq;
-        few = p.few;
         trees = p.trees;
         differ = p.differ;
         open_savepoints = p.open_savepoints;

@@ -53,7 +53,6 @@ running_fixed digest h r o run free line e script is = record {
     id = run.context.id;
     explicit = run.context.explicit;
     seq = run.context.seq;
-    few = run.context.few;
     trees = run.context.trees;
     differ = run.context.differ;
     open_savepoints = run.context.open_savepoints;

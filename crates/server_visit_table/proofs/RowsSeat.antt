@@ -14,7 +14,6 @@ use Rattle.server_session.specs.Seats.{OpenTransaction, inside, Session}
 use Rattle.server_session.specs.Seats as law
 use Rattle.law_protocol_steps.proofs.TakesInTable.{IsAtPlace, table_place, cell_at}
 use Rattle.spec_model.specs.Limits.{max_savepoints}
-use Rattle.server_session.specs.Leaves.{leaves_in}
 use Rattle.server_session.specs.Represents.{RepresentSavepoints, Represents}
 use Rattle.server_session.specs.Trees.{TreesHold, tables_of}
 use Rattle.server_session.specs.Context.{TxCtx}
@@ -118,10 +117,9 @@ represents_too digest h ctx o p id explicit seq trees open_savepoints w = same (
       id = u.id ∙ a;
       explicit = u.explicit ∙ b;
       seq = u.seq ∙ c;
-      few = subst₂ (λ (ts : List law.Tree) (n : ℕ). (table : ℕ) → length (leaves_in table ts) ≤ n) d c u.few;
-      trees = subst (TreesHold digest h ctx.trees.items) d u.trees;
+      trees = subst (TreesHold (digest h) ctx.trees.items) d u.trees;
       differ = u.differ;
-      open_savepoints = subst (RepresentSavepoints (digest h) (tables_of ctx.trees.items) ctx.savepoints.items) e u.open_savepoints;
+      open_savepoints = subst₂ (λ (ts : List law.Tree) (fs : List law.OpenSavepoint). RepresentSavepoints (tables_of ctx.trees.items) ts ctx.savepoints.items fs) d e u.open_savepoints;
       kept = subst (λ (fs : List law.OpenSavepoint). length fs ≤ max_savepoints) e u.kept;
     }
 

@@ -9,10 +9,12 @@ use Rattle.spec_protocol.specs.Doing.{grown}
 use Rattle.spec_protocol.specs.Moves.{noting}
 use Rattle.spec_protocol.specs.Seats.{Tree, OpenTransaction}
 use Rattle.store_tx.specs.Leaves.{leaves_in, with_leaf}
-use Rattle.store_tx.specs.Represents.{Represents, IsOpen, MayNote}
-use Rattle.store_tx.specs.Trees.{tree_of, IsTree}
+use Rattle.store_tx.specs.LeafHashes.{IsTree}
+use Rattle.store_tx.specs.Represents.{Represents, HasRoom, MayNote}
+use Rattle.store_tx.specs.Trees.{tables_of, tree_of}
 use Rattle.store_tx.specs.declared.context.TxCtx.{TxCtx}
 use Rattle.store_tx.proofs.Leaves.{leaf_here, leaf_elsewhere}
+use Rattle.store_tx.proofs.OpenSavepoints.{same_saved}
 use Rattle.store_table.proofs.Noted.{grown_here}
 use Rattle.store_catalog.specs.Noted.{with_leaves, MayNoteBoth, MayNoteMany}
 
@@ -69,10 +71,9 @@ module _ {H : Type 0} (digest : H → List ℕ → List ℕ) where
     id = r.id;
     explicit = r.explicit;
     seq = r.seq ∙ is;
-    few = λ id. subst (λ (k : ℕ). length (leaves_in id ys) ≤ k) is (subst (λ (ls : List (List ℕ)). length ls ≤ m) (same id) (r.few id));
-    trees = λ id. subst (λ (ls : List (List ℕ)). IsTree digest h (tree_of id c.trees.items) ls) (same id) (r.trees id);
+    trees = λ id. subst (λ (ls : List (List ℕ)). IsTree (digest h) (tree_of id c.trees.items) ls) (same id) (r.trees id);
     differ = r.differ;
-    open_savepoints = r.open_savepoints;
+    open_savepoints = same_saved (tables_of c.trees.items) xs ys c.savepoints.items o.open_savepoints same r.open_savepoints;
     kept = r.kept;
   }
 
@@ -82,7 +83,6 @@ module _ {H : Type 0} (digest : H → List ℕ → List ℕ) where
     id = r.id;
     explicit = r.explicit;
     seq = r.seq ∙ sym is;
-    few = λ id. subst (λ (k : ℕ). length (leaves_in id o.trees) ≤ k) (sym is) (r.few id);
     trees = r.trees;
     differ = r.differ;
     open_savepoints = r.open_savepoints;
@@ -90,16 +90,16 @@ module _ {H : Type 0} (digest : H → List ℕ → List ℕ) where
   }
 
   pub may_note : (table count : ℕ) (c : TxCtx H) → 1 ≤ count → MayNoteMany digest table count c → MayNote digest table c
-  may_note table count c some m = record { h = m.h; o = m.o; is = m.is; open_tree = m.open_tree; room = omega (arith, some, m.room) }
+  may_note table count c some m = record { h = m.h; o = m.o; is = m.is; open_tree = (let room = m.open_tree in omega (arith, some, room)); room = omega (arith, some, m.room) }
 
   pub may_note_rest : (table count rest : ℕ) (leaf : List ℕ) (c d : TxCtx H) → rest + 1 ≡ count
       → ((h : H) (o : OpenTransaction) → Represents digest h c o → Represents digest h d (noting (o.seq + 1) (with_leaf table leaf o.trees) o))
-      → ((id : ℕ) → IsOpen id c → IsOpen id d) → MayNoteMany digest table count c → MayNoteMany digest table rest d
+      → ((n : ℕ) → HasRoom (n + 1) table c → HasRoom n table d) → MayNoteMany digest table count c → MayNoteMany digest table rest d
   may_note_rest table count rest leaf c d more noted still m = record {
     h = m.h;
     o = noting (m.o.seq + 1) (with_leaf table leaf m.o.trees) m.o;
     is = noted m.h m.o m.is;
-    open_tree = still table m.open_tree;
+    open_tree = still rest (let room = m.open_tree in omega (arith, more, room));
     room = omega (arith, more, m.room);
   }
 
@@ -113,7 +113,7 @@ module _ {H : Type 0} (digest : H → List ℕ → List ℕ) where
     parts = first_and_rest leaves item some at ∙ ap (λ (l : List ℕ). l ∷ rest) (sym is)
 
     pub rest_may : (c d : TxCtx H) → ((h : H) (o : OpenTransaction) → Represents digest h c o → Represents digest h d (noting (o.seq + 1) (with_leaf table leaf o.trees) o))
-        → ((id : ℕ) → IsOpen id c → IsOpen id d) → MayNoteMany digest table (length leaves) c → MayNoteMany digest table (length (take (length leaves - 1) (drop 1 leaves))) d
+        → ((n : ℕ) → HasRoom (n + 1) table c → HasRoom n table d) → MayNoteMany digest table (length leaves) c → MayNoteMany digest table (length (take (length leaves - 1) (drop 1 leaves))) d
     rest_may c d noted still m =
         let more = ap (λ (l : List (List ℕ)). length l) parts in
         may_note_rest table (length leaves) (length rest) leaf c d (omega (arith, more)) noted still m
@@ -128,16 +128,16 @@ module _ {H : Type 0} (digest : H → List ℕ → List ℕ) where
 
   -- ---- both tables of the system
 
-  pub first_of : (total n : ℕ) (c : TxCtx H) → n ≤ total → MayNoteBoth digest total c → MayNoteMany digest tables_id n c
-  first_of total n c le m = record { h = m.h; o = m.o; is = m.is; open_tree = m.tables; room = omega (arith, le, m.room) }
+  pub first_of : (n more : ℕ) (c : TxCtx H) → MayNoteBoth digest n more c → MayNoteMany digest tables_id n c
+  first_of n more c m = record { h = m.h; o = m.o; is = m.is; open_tree = m.tables; room = omega (arith, m.room) }
 
-  pub second_of : (first : List (List ℕ)) (total n : ℕ) (c d : TxCtx H) → length first + n ≡ total
+  pub second_of : (first : List (List ℕ)) (n : ℕ) (c d : TxCtx H)
       → ((h : H) (o : OpenTransaction) → Represents digest h c o → Represents digest h d (noting (o.seq + length first) (with_leaves tables_id first o.trees) o))
-      → ((id : ℕ) → IsOpen id c → IsOpen id d) → MayNoteBoth digest total c → MayNoteMany digest columns_id n d
-  second_of first total n c d is noted still m = record {
+      → ((n id : ℕ) → id ≢ tables_id → HasRoom n id c → HasRoom n id d) → MayNoteBoth digest (length first) n c → MayNoteMany digest columns_id n d
+  second_of first n c d noted others m = record {
     h = m.h;
     o = noting (m.o.seq + length first) (with_leaves tables_id first m.o.trees) m.o;
     is = noted m.h m.o m.is;
-    open_tree = still columns_id m.columns;
-    room = omega (arith, is, m.room);
+    open_tree = others n columns_id (λ e. omega (arith, e)) m.columns;
+    room = omega (arith, m.room);
   }

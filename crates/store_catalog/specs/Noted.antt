@@ -6,7 +6,7 @@ use Rattle.spec_model.specs.Runs.{MadeBefore}
 use Rattle.spec_model.specs.SystemTables.{columns_id, tables_id}
 use Rattle.spec_protocol.specs.Seats.{Tree, OpenTransaction}
 use Rattle.store_tx.specs.Leaves.{with_leaf}
-use Rattle.store_tx.specs.Represents.{Represents, IsOpen}
+use Rattle.store_tx.specs.Represents.{Represents, HasRoom}
 use Rattle.store_tx.specs.declared.context.TxCtx.{TxCtx}
 use Rattle.store_catalog.specs.declared.rows.NewRows.{NewRows}
 
@@ -21,17 +21,17 @@ pub record MayNoteMany {H : Type 0} (digest : H → List ℕ → List ℕ) (tabl
   pub h : H
   pub o : OpenTransaction
   pub is : Represents digest h c o
-  pub open_tree : IsOpen table c
+  pub open_tree : HasRoom count table c
   pub room : o.seq + count < 2 ^ 63
 
 -- so many more events of both tables of the system may be
-pub record MayNoteBoth {H : Type 0} (digest : H → List ℕ → List ℕ) (count : ℕ) (c : TxCtx H) : Type 0 where
+pub record MayNoteBoth {H : Type 0} (digest : H → List ℕ → List ℕ) (first second : ℕ) (c : TxCtx H) : Type 0 where
   pub h : H
   pub o : OpenTransaction
   pub is : Represents digest h c o
-  pub tables : IsOpen tables_id c
-  pub columns : IsOpen columns_id c
-  pub room : o.seq + count < 2 ^ 63
+  pub tables : HasRoom first tables_id c
+  pub columns : HasRoom second columns_id c
+  pub room : o.seq + (first + second) < 2 ^ 63
 
 -- rows may start beside these versions as the events from seq on
 pub record MayStart {H : Type 0} (digest : H → List ℕ → List ℕ) (tx seq : ℕ) (rows : NewRows)

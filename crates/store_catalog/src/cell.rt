@@ -207,7 +207,7 @@ impl CatalogCell {
     {
         let (tx, seq) = (ctx.id(), ctx.seq());
         let NewTable { def, first, second } = work_out_table(alloc, &self.defs, tx, seq, create)?;
-        open_both(ctx)?;
+        open_both(ctx, first.leaves.len(), second.leaves.len())?;
         let count = second.starts.len();
         reserve(&mut self.tables, &mut self.columns, count)?;
         self.defs.push(alloc, def)?;

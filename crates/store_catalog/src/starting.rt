@@ -35,7 +35,7 @@ pub(crate) fn start_rows<H: Hash32>(
         → Represents H.digest h ctx.new o) }
 {
     let NewRows { starts, leaves } = rows;
-    ctx.open_tree(table)?;
+    ctx.open_tree(table, leaves.len())?;
     stored.reserve(starts.len())?;
     note_all(ctx, table, leaves.as_slice());
     carry_out(stored, tx, seq, starts);

@@ -1,5 +1,5 @@
 -- The leaves of events in the trees of a transaction.
-use Rattle.std.proofs.Common.{◌≡◌, ◌≢◌, ◌<◌, ◌≤◌, ◌+◌, ℕ, refl, sym, ap, subst, ◌∙◌, Bool, true, false, List, [], ◌∷◌, ◌++◌, length, map, take, get_or, zero, suc, ⊎_elim, arith}
+use Rattle.std.proofs.Common.{◌≡◌, ◌≢◌, ◌<◌, ◌≤◌, ◌+◌, ◌-◌, ℕ, refl, sym, ap, subst, ◌∙◌, Bool, true, false, List, [], ◌∷◌, ◌++◌, length, map, take, get_or, zero, suc, ⊎_elim, arith}
 use Rattle.std.proofs.lemmas.Bool.{cases_eq, ne_eqb, eq-eqb, eqb-true}
 use Rattle.std.proofs.lemmas.List.{append-nil, append_assoc, take_all}
 use Rattle.std.specs.Prelude.{◌==◌, if◌then◌else◌}
@@ -9,10 +9,12 @@ use Rattle.spec_protocol.specs.Doing.{grown}
 use Rattle.spec_protocol.specs.Moves.{noting}
 use Rattle.spec_protocol.specs.Seats.{OpenTransaction, Tree}
 use Rattle.store_tx.specs.Leaves.{leaves_in, with_leaf}
-use Rattle.store_tx.specs.Represents.{IsOpen, MayNote, Represents}
-use Rattle.store_tx.specs.Trees.{tree_of, IsTree}
+use Rattle.store_tx.specs.LeafHashes.{IsTree}
+use Rattle.store_tx.specs.Represents.{HasRoom, MayNote, Represents}
+use Rattle.store_tx.specs.Trees.{tables_of, tree_of}
 use Rattle.store_tx.specs.declared.context.TxCtx.{TxCtx}
 use Rattle.store_tx.proofs.Leaves.{leaf_here, leaf_elsewhere}
+use Rattle.store_tx.proofs.OpenSavepoints.{same_saved}
 use Rattle.store_table.specs.Made.{MayNoteAll, with_leaves}
 
 -- ---- one leaf after another
@@ -65,10 +67,9 @@ alike digest h c n ts us o same r = record {
   id = r.id;
   explicit = r.explicit;
   seq = r.seq;
-  few = λ table. subst (λ (ls : List (List ℕ)). length ls ≤ n) (same table) (r.few table);
-  trees = λ table. subst (λ (ls : List (List ℕ)). IsTree digest h (tree_of table c.trees.items) ls) (same table) (r.trees table);
+  trees = λ table. subst (λ (ls : List (List ℕ)). IsTree (digest h) (tree_of table c.trees.items) ls) (same table) (r.trees table);
   differ = r.differ;
-  open_savepoints = r.open_savepoints;
+  open_savepoints = same_saved (tables_of c.trees.items) ts us c.savepoints.items o.open_savepoints same r.open_savepoints;
   kept = r.kept;
 }
 
@@ -89,13 +90,13 @@ one_up k = omega arith
 -- the first so many leaves are noted
 pub record Noting {H : Type 0} (digest : H → List ℕ → List ℕ) (table k : ℕ) (leaves : List (List ℕ)) (was now : TxCtx H) : Type 0 where
   pub noted : (h : H) (o : OpenTransaction) → Represents digest h was o → Represents digest h now (noting (o.seq + k) (with_leaves table (take k leaves) o.trees) o)
-  pub open_tree : IsOpen table now
+  pub open_tree : HasRoom (length leaves - k) table now
 
 module _ {H : Type 0} (digest : H → List ℕ → List ℕ) (table : ℕ) (leaves : List (List ℕ)) (was : TxCtx H) (may : MayNoteAll digest table (length leaves) was) where
   pub noting_first : Noting digest table 0 leaves was was
   noting_first = record {
     noted = λ h o r. subst (λ (n : ℕ). Represents digest h was (noting n o.trees o)) {x = o.seq} (omega arith) r;
-    open_tree = may.open_tree;
+    open_tree = (let room = may.open_tree in omega (arith, room));
   }
 
   module _ (k : ℕ) (now : TxCtx H) (inside : k < length leaves) (so_far : Noting digest table k leaves was now) where
@@ -104,13 +105,13 @@ module _ {H : Type 0} (digest : H → List ℕ → List ℕ) (table : ℕ) (leav
       h = may.h;
       o = noting (may.o.seq + k) (with_leaves table (take k leaves) may.o.trees) may.o;
       is = so_far.noted may.h may.o may.is;
-      open_tree = so_far.open_tree;
+      open_tree = (let room = so_far.open_tree in omega (arith, room, inside));
       room = (let r = may.room in omega (arith, r, inside));
     }
 
     pub noting_one : (new : TxCtx H) (leaf item : List ℕ) → leaf ≡ item → item ≡ get_or leaves k item
         → ((h : H) (o : OpenTransaction) → Represents digest h now o → Represents digest h new (noting (o.seq + 1) (with_leaf table leaf o.trees) o))
-        → ((id : ℕ) → IsOpen id now → IsOpen id new) → Noting digest table (k + 1) leaves was new
+        → ((n : ℕ) → HasRoom (n + 1) table now → HasRoom n table new) → Noting digest table (k + 1) leaves was new
     noting_one new leaf item same is noted_leaf still_open =
         let noted : (h : H) (o : OpenTransaction) → Represents digest h now o → Represents digest h new (noting (o.seq + 1) (with_leaf table item o.trees) o) =
         subst (λ (l : List ℕ). (h : H) (o : OpenTransaction) → Represents digest h now o → Represents digest h new (noting (o.seq + 1) (with_leaf table l o.trees) o)) same noted_leaf in
@@ -120,7 +121,7 @@ module _ {H : Type 0} (digest : H → List ℕ → List ℕ) (table : ℕ) (leav
               (subst (λ (ts : List Tree). Represents digest h new (noting (o.seq + (k + 1)) ts o)) (with_last table (take k leaves) item o.trees)
               (subst (λ (n : ℕ). Represents digest h new (noting n (with_leaf table item (with_leaves table (take k leaves) o.trees)) o)) {x = o.seq + k + 1} (omega arith)
               (noted h (noting (o.seq + k) (with_leaves table (take k leaves) o.trees) o) (so_far.noted h o r))));
-          open_tree = still_open table so_far.open_tree;
+          open_tree = still_open (length leaves - (k + 1)) (let room = so_far.open_tree in omega (arith, room, inside));
         }
 
   pub noting_done : (k : ℕ) (now : TxCtx H) → length leaves ≤ k → k ≤ length leaves → Noting digest table k leaves was now

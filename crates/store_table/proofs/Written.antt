@@ -15,7 +15,7 @@ use Rattle.format_event.specs.Leaf.{event_bytes}
 use Rattle.spec_protocol.specs.Doing.{events_from, grown}
 use Rattle.spec_protocol.specs.Moves.{noting}
 use Rattle.spec_protocol.specs.Seats.{OpenTransaction}
-use Rattle.store_tx.specs.Represents.{IsOpen, Represents}
+use Rattle.store_tx.specs.Represents.{HasRoom, Represents}
 use Rattle.store_tx.specs.declared.context.TxCtx.{TxCtx}
 use Rattle.store_table.specs.Calls.{HasWritten, MayChange, RowsWritten}
 use Rattle.store_table.specs.Made.{events_made, IsMade, IsWorkedOut, MayNoteAll, with_leaves}
@@ -47,12 +47,12 @@ module _ {H : Type 0} (digest : H → List ℕ → List ℕ) (tx seq : ℕ) (bef
       (subst (λ (n : ℕ). AllByRecursion (MadeBefore may.o.id n) vs) (sym (seq_is may.h may.o may.is)) may.before)
 
   pub may_note_all : (table count : ℕ) (vs : List Version) (mid : TxCtx H) → MayChange digest before vs → ((h : H) (o : OpenTransaction) → Represents digest h before o → Represents digest h mid o)
-      → IsOpen table mid → seq + count < 2 ^ 63 → MayNoteAll digest table count mid
-  may_note_all table count vs mid may still explicit room = record {
+      → HasRoom count table mid → seq + count < 2 ^ 63 → MayNoteAll digest table count mid
+  may_note_all table count vs mid may still tree room = record {
     h = may.h;
     o = may.o;
     is = still may.h may.o may.is;
-    open_tree = explicit;
+    open_tree = tree;
     room = (let e = seq_is may.h may.o may.is in omega (arith, e, room));
   }
 

@@ -14,7 +14,7 @@ use Rattle.law_journal.specs.Fits.{Fits, FitsSoFar}
 use Rattle.format_event.specs.Leaf.{event_bytes}
 use Rattle.spec_protocol.specs.Seats.{OpenTransaction, Tree}
 use Rattle.store_tx.specs.Leaves.{with_leaf}
-use Rattle.store_tx.specs.Represents.{IsOpen, Represents}
+use Rattle.store_tx.specs.Represents.{HasRoom, Represents}
 use Rattle.store_tx.specs.declared.context.TxCtx.{TxCtx}
 use Rattle.store_table.specs.Orders.{version_at}
 
@@ -65,7 +65,7 @@ pub record MayNoteAll {H : Type 0} (digest : H → List ℕ → List ℕ) (table
   pub h : H
   pub o : OpenTransaction
   pub is : Represents digest h c o
-  pub open_tree : IsOpen table c
+  pub open_tree : HasRoom count table c
   pub room : o.seq + count < 2 ^ 63
 
 -- ---- what a statement is to do

@@ -3,7 +3,7 @@
 ghost use Rattle.std.specs.Prelude.{◌≡◌, ◌<◌, ◌+◌, ◌^◌, length};
 ghost use Rattle.spec_protocol.specs.Moves.{noting};
 ghost use Rattle.spec_protocol.specs.Seats.{OpenTransaction};
-ghost use Rattle.store_tx.specs.Represents.{IsOpen, Represents};
+ghost use Rattle.store_tx.specs.Represents.{Represents};
 ghost use Rattle.store_table.specs.Made.{MayNoteAll, with_leaves};
 
 use base_merkle::Hash32;

@@ -9,7 +9,7 @@ ghost use Rattle.spec_model.specs.Checks.{row_statement_check};
 ghost use Rattle.spec_model.specs.Keys.{key_places};
 ghost use Rattle.spec_model.specs.Limits.{max_columns};
 ghost use Rattle.spec_protocol.specs.Seats.{OpenTransaction};
-ghost use Rattle.store_tx.specs.Represents.{IsOpen, Represents};
+ghost use Rattle.store_tx.specs.Represents.{HasRoom, Represents};
 ghost use Rattle.store_table.specs.Calls.{MayChange, RowsWritten};
 ghost use Rattle.store_table.specs.Stored.{with_versions};
 
@@ -57,8 +57,8 @@ pub fn change_rows<H: Hash32>(
     Ok(worked.count)
 }
 
-// Makes room for so many starts, opens the tree of the table, and sets the key. After want of memory the
-// versions are as they were.
+// Makes room for so many changes, and for their events in the tree of the table, and sets the key. After want
+// of memory the versions are as they were.
 fn make_room<H: Hash32>(
     alloc: Global,
     store: &mut VersionStore,
@@ -70,12 +70,12 @@ fn make_room<H: Hash32>(
     ensures stored { OnOk result (store.new.stored
         ≡ with_versions (key_places table.now.columns) store.old.stored.versions store.old.stored) }
     ensures room { OnOk result (store.new.room ≡ count) }
-    ensures open { OnOk result (IsOpen table.now.id ctx.new) }
+    ensures open { OnOk result (HasRoom count table.now.id ctx.new) }
     ensures err { OnErr result (store.new.stored ≡ store.old.stored) }
     ensures context { (h : H) (o : OpenTransaction) → Represents H.digest h ctx.old o
         → Represents H.digest h ctx.new o }
 {
     store.reserve(count)?;
-    ctx.open_tree(table.def().id)?;
+    ctx.open_tree(table.def().id, count)?;
     store.set_key(alloc, table.columns())
 }

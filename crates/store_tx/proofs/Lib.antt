@@ -1,4 +1,5 @@
 pub mod OpenSavepoints
+pub mod LeafHashes
 pub mod Leaves
 pub mod Marks
 pub mod ReadOnly

@@ -1,147 +1,129 @@
 -- Marks that are made of trees, and trees that go back to marks.
-use Rattle.std.proofs.Common.{◌≡◌, ◌<◌, ◌≤◌, ◌+◌, ℕ, zero, suc, Bool, true, false, List, [], ◌∷◌, ◌++◌, Option, Some, None, length, get_or, slice_set, take, refl, sym, ap, ◌∙◌, subst, arith, length-append}
-use Rattle.std.proofs.lemmas.List.{length-take-le, length-set, take_all}
-use Rattle.std.proofs.Math.Seq.{take-suc}
-use Rattle.std.specs.Prelude.{◌==◌, slice_get, if◌then◌else◌}
-use Rattle.base_merkle.specs.declared.frontier.Frontier.{Frontier}
-use Rattle.base_merkle.specs.declared.frontier.FrontierMark.{FrontierMark}
-use Rattle.base_merkle.specs.Holds.{Holds, Marks}
-use Rattle.store_tx.specs.Trees.{tree_of, tables_of, mark_of, IsTree, IsMark}
+use Rattle.std.proofs.Common.{◌≡◌, ◌<◌, ◌≤◌, ◌+◌, ℕ, zero, suc, Bool, true, false, List, [], ◌∷◌, ◌++◌, length, map, get_or, slice_set, take, refl, sym, ap, ◌∙◌, subst, arith}
+use Rattle.std.proofs.lemmas.List.{length-set, map_more, take_all}
+use Rattle.std.specs.Prelude.{◌==◌, if◌then◌else◌}
+use Rattle.store_tx.specs.LeafHashes.{LeafHashes}
+use Rattle.store_tx.specs.Trees.{tree_of, tables_of, count_of}
 use Rattle.store_tx.specs.declared.tree.TableTree.{TableTree}
 
-module _ {H : Type 0} (digest : H → List ℕ → List ℕ) where
-  -- ---- marks of trees
+-- ---- marks of trees
 
-  abbrev pub AreMarked : List (TableTree H) → List FrontierMark → Type 0
-  AreMarked ts ms = (h : H) (id : ℕ) (leaves : List (List ℕ)) → IsTree digest h (tree_of id ts) leaves → IsMark (digest h) (mark_of id (tables_of ts) ms) leaves
+abbrev pub leaf_count : TableTree → ℕ
+leaf_count t = length t.leaves.hashes
 
-  one_marked : (h : H) (id : ℕ) (ts : List (TableTree H)) (ms : List FrontierMark) (t : TableTree H) (m : FrontierMark) (leaves : List (List ℕ))
-      → length ms ≡ length ts → (IsTree digest h (tree_of id ts) leaves → IsMark (digest h) (mark_of id (tables_of ts) ms) leaves)
-      → (Holds digest h t.frontier leaves → Marks (digest h) m leaves)
-      → IsTree digest h (tree_of id (ts ++ t ∷ [])) leaves → IsMark (digest h) (mark_of id (tables_of (ts ++ t ∷ [])) (ms ++ m ∷ [])) leaves
-  one_marked h id [] [] t m leaves len so_far marks = by (t.table == id)
-    where
-      by : (b : Bool) → IsTree digest h (if b then Some t.frontier else None) leaves → IsMark (digest h) (if b then Some m else None) leaves
-      by true k = marks k
-      by false k = k
-  one_marked h id [] (n ∷ ms) t m leaves len so_far marks = absurd (omega (arith, len))
-  one_marked h id (u ∷ ts) [] t m leaves len so_far marks = absurd (omega (arith, len))
-  one_marked h id (u ∷ ts) (n ∷ ms) t m leaves len so_far marks = by (u.table == id) so_far (λ k. one_marked h id ts ms t m leaves (omega (arith, len)) k marks)
-    where
-      by : (b : Bool) → (IsTree digest h (if b then Some u.frontier else tree_of id ts) leaves → IsMark (digest h) (if b then Some n else mark_of id (tables_of ts) ms) leaves)
-          → ((IsTree digest h (tree_of id ts) leaves → IsMark (digest h) (mark_of id (tables_of ts) ms) leaves) → IsTree digest h (tree_of id (ts ++ t ∷ [])) leaves → IsMark (digest h) (mark_of id (tables_of (ts ++ t ∷ [])) (ms ++ m ∷ [])) leaves)
-          → IsTree digest h (if b then Some u.frontier else tree_of id (ts ++ t ∷ [])) leaves → IsMark (digest h) (if b then Some n else mark_of id (tables_of (ts ++ t ∷ [])) (ms ++ m ∷ [])) leaves
-      by true so rest k = so k
-      by false so rest k = rest so k
+pub marks_more : (ts : List TableTree) (i : ℕ) (t : TableTree) (ms ns : List ℕ) → i < length ts → t ≡ get_or ts i t
+    → ms ≡ map leaf_count (take i ts) → ns ≡ ms ++ leaf_count t ∷ [] → ns ≡ map leaf_count (take (i + 1) ts)
+marks_more ts i t ms ns lt here so_far there =
+    there ∙ ap (λ (l : List ℕ). l ++ leaf_count t ∷ []) so_far
+    ∙ ap (λ (u : TableTree). map leaf_count (take i ts) ++ leaf_count u ∷ []) here ∙ sym (map_more leaf_count ts i t lt)
 
-  pub marked_more : (ts us : List (TableTree H)) (ms ns : List FrontierMark) (t : TableTree H) (m : FrontierMark) → length ms ≡ length ts
-      → us ≡ ts ++ t ∷ [] → ns ≡ ms ++ m ∷ [] → AreMarked ts ms
-      → ((h : H) (leaves : List (List ℕ)) → Holds digest h t.frontier leaves → Marks (digest h) m leaves) → AreMarked us ns
-  marked_more ts us ms ns t m len more there so_far marks = rw (more, there) (λ h id leaves k. one_marked h id ts ms t m leaves len (so_far h id leaves) (marks h leaves) k)
+pub marks_all : (ts : List TableTree) (i : ℕ) (ms : List ℕ) → length ts ≤ i → ms ≡ map leaf_count (take i ts) → ms ≡ map leaf_count ts
+marks_all ts i ms le so = so ∙ ap (map leaf_count) (take_all i ts le)
 
-  pub marks_more : (ts : List (TableTree H)) (i : ℕ) (t : TableTree H) (ms ns : List FrontierMark) (m : FrontierMark) → i < length ts → t ≡ get_or ts i t → length ms ≡ i
-      → AreMarked (take i ts) ms → ns ≡ ms ++ m ∷ [] → ((h : H) (leaves : List (List ℕ)) → Holds digest h t.frontier leaves → Marks (digest h) m leaves)
-      → (length ns ≡ i + 1) × AreMarked (take (i + 1) ts) ns
-  marks_more ts i t ms ns m lt here len so_far there marks =
-      let longer = length-append ms (m ∷ []) in
-      let taken = length-take-le i ts (omega (arith, lt)) in
-      let next : i + 1 ≡ suc i = omega arith in
-      let one : take (i + 1) ts ≡ take i ts ++ t ∷ [] = ap (λ n. take n ts) next ∙ take-suc ts i t lt ∙ ap (λ x. take i ts ++ x ∷ []) (sym here) in
-      (omega (arith, ap length there, longer, len), marked_more (take i ts) (take (i + 1) ts) ms ns t m (len ∙ sym taken) one there so_far marks)
+-- the mark of a table counts the leaves of its tree
+pub marked : (id : ℕ) (ts : List TableTree) → count_of id (tables_of ts) (map leaf_count ts) ≡ length (tree_of id ts).hashes
+marked id [] = refl
+marked id (t ∷ ts) = by (t.table == id) (marked id ts)
+  where
+    by : (b : Bool) → count_of id (tables_of ts) (map leaf_count ts) ≡ length (tree_of id ts).hashes
+        → (if b then leaf_count t else count_of id (tables_of ts) (map leaf_count ts)) ≡ length (if b then t.leaves else tree_of id ts).hashes
+    by true e = refl
+    by false e = e
 
-  pub marks_all : (ts : List (TableTree H)) (i : ℕ) (ms : List FrontierMark) → length ts ≤ i → AreMarked (take i ts) ms → AreMarked ts ms
-  marks_all ts i ms le so = subst (λ v. AreMarked v ms) (take_all i ts le) so
+-- ---- trees that go back
 
-  -- ---- trees that go back
+abbrev rest_of : List ℕ → List ℕ
+rest_of [] = []
+rest_of (m ∷ ms) = ms
 
-  abbrev head_of : List FrontierMark → Option FrontierMark
-  head_of [] = None
-  head_of (m ∷ ms) = Some m
+-- the tree has its first leaves again, so many
+pub record IsBack (t : TableTree) (count : ℕ) (u : TableTree) : Type 0 where
+  pub table : u.table ≡ t.table
+  pub hashes : u.leaves.hashes ≡ take count t.leaves.hashes
+  pub room : t.leaves.room ≤ u.leaves.room
 
-  abbrev rest_of : List FrontierMark → List FrontierMark
-  rest_of [] = []
-  rest_of (m ∷ ms) = ms
+-- the first n are back, the others as they were
+abbrev pub AreBack : ℕ → List TableTree → List ℕ → List TableTree → Type 0
+AreBack zero ts ms us = us ≡ ts
+AreBack (suc n) [] ms us = us ≡ []
+AreBack (suc n) (t ∷ ts) ms [] = ⊥
+AreBack (suc n) (t ∷ ts) ms (u ∷ us) = IsBack t (get_or ms 0 0) u × AreBack n ts (rest_of ms) us
 
-  -- the tree is back at the mark, or has no leaf where there is none
-  pub record IsBack (h : H) (t : TableTree H) (mark : Option FrontierMark) (u : TableTree H) : Type 0 where
-    pub table : u.table ≡ t.table
-    pub leaves : (leaves before : List (List ℕ)) → Holds digest h t.frontier leaves → IsMark (digest h) mark before → Holds digest h u.frontier before
+next_mark : (n : ℕ) (ms : List ℕ) → get_or ms (suc n) 0 ≡ get_or (rest_of ms) n 0
+next_mark n [] = refl
+next_mark n (m ∷ ms) = refl
 
-  -- the first n are back, the others as they were
-  abbrev pub AreBack : H → ℕ → List (TableTree H) → List FrontierMark → List (TableTree H) → Type 0
-  AreBack h zero ts ms us = us ≡ ts
-  AreBack h (suc n) [] ms us = us ≡ []
-  AreBack h (suc n) (t ∷ ts) ms [] = ⊥
-  AreBack h (suc n) (t ∷ ts) ms (u ∷ us) = IsBack h t (head_of ms) u × AreBack h n ts (rest_of ms) us
+one_back : (n : ℕ) (ts : List TableTree) (ms : List ℕ) (us : List TableTree) (x y : TableTree) → AreBack n ts ms us → n < length us
+    → IsBack (get_or us n x) (get_or ms n 0) y → AreBack (suc n) ts ms (slice_set us n y)
+one_back zero [] ms [] x y so lt one = absurd (omega (arith, lt))
+one_back zero [] ms (u ∷ us) x y so lt one = cc
+one_back zero (t ∷ ts) ms [] x y so lt one = absurd (omega (arith, lt))
+one_back zero (t ∷ ts) ms (u ∷ us) x y so lt one = (subst (λ (v : TableTree). IsBack v (get_or ms 0 0) y) (head_same so) one, tail_same so)
+  where
+    head_same : u ∷ us ≡ t ∷ ts → u ≡ t
+    head_same e = cc
 
-  mark_at : (n : ℕ) (ms : List FrontierMark) → slice_get ms (suc n) ≡ slice_get (rest_of ms) n
-  mark_at n [] = refl
-  mark_at n (m ∷ ms) = refl
+    tail_same : u ∷ us ≡ t ∷ ts → us ≡ ts
+    tail_same e = cc
+one_back (suc n) [] ms [] x y so lt one = absurd (omega (arith, lt))
+one_back (suc n) [] ms (u ∷ us) x y so lt one = cc
+one_back (suc n) (t ∷ ts) ms [] x y so lt one = absurd (omega (arith, lt))
+one_back (suc n) (t ∷ ts) ms (u ∷ us) x y so lt one =
+    (so.0, one_back n ts (rest_of ms) us x y so.1 (omega (arith, lt)) (subst (λ (k : ℕ). IsBack (get_or us n x) k y) (next_mark n ms) one))
 
-  first_mark : (ms : List FrontierMark) → slice_get ms 0 ≡ head_of ms
-  first_mark [] = refl
-  first_mark (m ∷ ms) = refl
+pub step_back : (n : ℕ) (ts : List TableTree) (ms : List ℕ) (us : List TableTree) (x : TableTree) (f : LeafHashes) (count : ℕ)
+    → n < length us → x ≡ get_or us n x → count ≡ get_or ms n 0 → f.hashes ≡ take count x.leaves.hashes → x.leaves.room ≤ f.room
+    → length us ≡ length ts → AreBack n ts ms us
+    → (length (slice_set us n (record { leaves = f; table = x.table })) ≡ length ts) × AreBack (n + 1) ts ms (slice_set us n (record { leaves = f; table = x.table }))
+step_back n ts ms us x f count lt here read cut more len so =
+    let y : TableTree = record { leaves = f; table = x.table } in
+    let one : IsBack x count y = record { table = refl; hashes = cut; room = more } in
+    let there : IsBack (get_or us n x) (get_or ms n 0) y = subst (λ (k : ℕ). IsBack (get_or us n x) k y) read (subst (λ (v : TableTree). IsBack v count y) here one) in
+    let next : suc n ≡ n + 1 = omega arith in
+    (length-set us n y ∙ len, subst (λ (k : ℕ). AreBack k ts ms (slice_set us n y)) next (one_back n ts ms us x y so lt there))
 
-  pub one_back : (h : H) (n : ℕ) (ts : List (TableTree H)) (ms : List FrontierMark) (us : List (TableTree H)) (x y : TableTree H) → AreBack h n ts ms us → n < length us
-      → IsBack h (get_or us n x) (slice_get ms n) y → AreBack h (suc n) ts ms (slice_set us n y)
-  one_back h zero [] ms [] x y so lt one = absurd (omega (arith, lt))
-  one_back h zero [] ms (u ∷ us) x y so lt one = cc
-  one_back h zero (t ∷ ts) ms [] x y so lt one = absurd (omega (arith, lt))
-  one_back h zero (t ∷ ts) ms (u ∷ us) x y so lt one = (subst (λ v. IsBack h v (head_of ms) y) (head_same so) (subst (λ o. IsBack h u o y) (first_mark ms) one), tail_same so)
-    where
-      head_same : u ∷ us ≡ t ∷ ts → u ≡ t
-      head_same e = cc
+pub back_tables : (n : ℕ) (ts : List TableTree) (ms : List ℕ) (us : List TableTree) → AreBack n ts ms us → tables_of us ≡ tables_of ts
+back_tables zero ts ms us so = ap tables_of so
+back_tables (suc n) [] ms us so = ap tables_of so
+back_tables (suc n) (t ∷ ts) ms [] so = absurd so
+back_tables (suc n) (t ∷ ts) ms (u ∷ us) so = rw (so.0.table, back_tables n ts (rest_of ms) us so.1) refl
 
-      tail_same : u ∷ us ≡ t ∷ ts → us ≡ ts
-      tail_same e = cc
-  one_back h (suc n) [] ms [] x y so lt one = absurd (omega (arith, lt))
-  one_back h (suc n) [] ms (u ∷ us) x y so lt one = cc
-  one_back h (suc n) (t ∷ ts) ms [] x y so lt one = absurd (omega (arith, lt))
-  one_back h (suc n) (t ∷ ts) ms (u ∷ us) x y so lt one =
-      (so.0, one_back h n ts (rest_of ms) us x y so.1 (omega (arith, lt)) (subst (λ o. IsBack h (get_or us n x) o y) (mark_at n ms) one))
+no_count : (id : ℕ) (tables : List ℕ) → count_of id tables [] ≡ 0
+no_count id [] = refl
+no_count id (t ∷ ts) = refl
 
-  pub step_back : (h : H) (n : ℕ) (ts : List (TableTree H)) (ms : List FrontierMark) (us : List (TableTree H)) (x : TableTree H) (f : Frontier H) (mark : Option FrontierMark)
-      → n < length us → x ≡ get_or us n x → mark ≡ slice_get ms n
-      → ((leaves before : List (List ℕ)) → Holds digest h x.frontier leaves → IsMark (digest h) mark before → Holds digest h f before)
-      → length us ≡ length ts → AreBack h n ts ms us
-      → (length (slice_set us n (record { frontier = f; table = x.table })) ≡ length ts) × AreBack h (n + 1) ts ms (slice_set us n (record { frontier = f; table = x.table }))
-  step_back h n ts ms us x f mark lt here read back len so =
-      let y : TableTree H = record { frontier = f; table = x.table } in
-      let one : IsBack h x mark y = record { table = refl; leaves = back } in
-      let there : IsBack h (get_or us n x) (slice_get ms n) y = subst (λ o. IsBack h (get_or us n x) o y) read (subst (λ v. IsBack h v mark y) here one) in
-      let next : suc n ≡ n + 1 = omega arith in
-      (length-set us n y ∙ len, subst (λ k. AreBack h k ts ms (slice_set us n y)) next (one_back h n ts ms us x y so lt there))
+pub back_hashes : (n : ℕ) (ts : List TableTree) (ms : List ℕ) (us : List TableTree) → length ts ≤ n → AreBack n ts ms us
+    → (id : ℕ) → (tree_of id us).hashes ≡ take (count_of id (tables_of ts) ms) (tree_of id ts).hashes
+back_hashes zero [] ms us le so id = ap (λ (v : List TableTree). (tree_of id v).hashes) so
+back_hashes (suc n) [] ms us le so id = ap (λ (v : List TableTree). (tree_of id v).hashes) so
+back_hashes zero (t ∷ ts) ms us le so id = absurd (omega (arith, le))
+back_hashes (suc n) (t ∷ ts) ms [] le so id = absurd so
+back_hashes (suc n) (t ∷ ts) [] (u ∷ us) le so id =
+    subst (λ (m : ℕ). (if m == id then u.leaves else tree_of id us).hashes ≡ take 0 (if t.table == id then t.leaves else tree_of id ts).hashes) (sym so.0.table)
+    (by (t.table == id) (back_hashes n ts [] us (omega (arith, le)) so.1 id))
+  where
+    by : (b : Bool) → (tree_of id us).hashes ≡ take (count_of id (tables_of ts) []) (tree_of id ts).hashes
+        → (if b then u.leaves else tree_of id us).hashes ≡ take 0 (if b then t.leaves else tree_of id ts).hashes
+    by true rest = so.0.hashes
+    by false rest = rest ∙ ap (λ (k : ℕ). take k (tree_of id ts).hashes) (no_count id (tables_of ts))
+back_hashes (suc n) (t ∷ ts) (m ∷ ms) (u ∷ us) le so id =
+    subst (λ (k : ℕ). (if k == id then u.leaves else tree_of id us).hashes ≡ take (if t.table == id then m else count_of id (tables_of ts) ms) (if t.table == id then t.leaves else tree_of id ts).hashes) (sym so.0.table)
+    (by (t.table == id) (back_hashes n ts ms us (omega (arith, le)) so.1 id))
+  where
+    by : (b : Bool) → (tree_of id us).hashes ≡ take (count_of id (tables_of ts) ms) (tree_of id ts).hashes
+        → (if b then u.leaves else tree_of id us).hashes ≡ take (if b then m else count_of id (tables_of ts) ms) (if b then t.leaves else tree_of id ts).hashes
+    by true rest = so.0.hashes
+    by false rest = rest
 
-  pub back_tables : (h : H) (n : ℕ) (ts : List (TableTree H)) (ms : List FrontierMark) (us : List (TableTree H)) → AreBack h n ts ms us → tables_of us ≡ tables_of ts
-  back_tables h zero ts ms us so = ap tables_of so
-  back_tables h (suc n) [] ms us so = ap tables_of so
-  back_tables h (suc n) (t ∷ ts) ms [] so = absurd so
-  back_tables h (suc n) (t ∷ ts) ms (u ∷ us) so = rw (so.0.table, back_tables h n ts (rest_of ms) us so.1) refl
-
-  no_mark : (id : ℕ) (tables : List ℕ) → mark_of id tables [] ≡ None
-  no_mark id [] = refl
-  no_mark id (t ∷ ts) = refl
-
-  pub back_leaves : (h : H) (n : ℕ) (ts : List (TableTree H)) (ms : List FrontierMark) (us : List (TableTree H)) (id : ℕ) (leaves before : List (List ℕ)) → length ts ≤ n → AreBack h n ts ms us
-      → IsTree digest h (tree_of id ts) leaves → IsMark (digest h) (mark_of id (tables_of ts) ms) before → IsTree digest h (tree_of id us) before
-  back_leaves h zero [] ms us id leaves before le so k l = subst (λ v. IsTree digest h (tree_of id v) before) (sym so) l
-  back_leaves h (suc n) [] ms us id leaves before le so k l = subst (λ v. IsTree digest h (tree_of id v) before) (sym so) l
-  back_leaves h zero (t ∷ ts) ms us id leaves before le so k l = absurd (omega (arith, le))
-  back_leaves h (suc n) (t ∷ ts) ms [] id leaves before le so k l = absurd so
-  back_leaves h (suc n) (t ∷ ts) [] (u ∷ us) id leaves before le so k l =
-      subst (λ m. IsTree digest h (if m == id then Some u.frontier else tree_of id us) before) (sym so.0.table)
-      (by (t.table == id) k (λ r. back_leaves h n ts [] us id leaves before (omega (arith, le)) so.1 r (subst (λ o. IsMark (digest h) o before) (sym (no_mark id (tables_of ts))) l)))
-    where
-      by : (b : Bool) → IsTree digest h (if b then Some t.frontier else tree_of id ts) leaves → (IsTree digest h (tree_of id ts) leaves → IsTree digest h (tree_of id us) before)
-          → IsTree digest h (if b then Some u.frontier else tree_of id us) before
-      by true r rest = so.0.leaves leaves before r l
-      by false r rest = rest r
-  back_leaves h (suc n) (t ∷ ts) (m ∷ ms) (u ∷ us) id leaves before le so k l =
-      subst (λ w. IsTree digest h (if w == id then Some u.frontier else tree_of id us) before) (sym so.0.table)
-      (by (t.table == id) k l (λ r q. back_leaves h n ts ms us id leaves before (omega (arith, le)) so.1 r q))
-    where
-      by : (b : Bool) → IsTree digest h (if b then Some t.frontier else tree_of id ts) leaves → IsMark (digest h) (if b then Some m else mark_of id (tables_of ts) ms) before
-          → (IsTree digest h (tree_of id ts) leaves → IsMark (digest h) (mark_of id (tables_of ts) ms) before → IsTree digest h (tree_of id us) before)
-          → IsTree digest h (if b then Some u.frontier else tree_of id us) before
-      by true r q rest = so.0.leaves leaves before r q
-      by false r q rest = rest r q
+pub back_rooms : (n : ℕ) (ts : List TableTree) (ms : List ℕ) (us : List TableTree) → AreBack n ts ms us
+    → (id : ℕ) → (tree_of id ts).room ≤ (tree_of id us).room
+back_rooms zero ts ms us so id = let same = ap (λ (v : List TableTree). (tree_of id v).room) so in omega (arith, same)
+back_rooms (suc n) [] ms us so id = omega arith
+back_rooms (suc n) (t ∷ ts) ms [] so id = absurd so
+back_rooms (suc n) (t ∷ ts) ms (u ∷ us) so id =
+    subst (λ (k : ℕ). (if t.table == id then t.leaves else tree_of id ts).room ≤ (if k == id then u.leaves else tree_of id us).room) (sym so.0.table)
+    (by (t.table == id) (back_rooms n ts (rest_of ms) us so.1 id))
+  where
+    by : (b : Bool) → (tree_of id ts).room ≤ (tree_of id us).room → (if b then t.leaves else tree_of id ts).room ≤ (if b then u.leaves else tree_of id us).room
+    by true rest = so.0.room
+    by false rest = rest

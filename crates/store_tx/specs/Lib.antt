@@ -1,3 +1,4 @@
+pub mod LeafHashes
 pub mod Leaves
 pub mod Represents
 pub mod Roots

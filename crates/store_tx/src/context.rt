@@ -1,6 +1,6 @@
 //! The context of a running transaction.
 
-ghost use Rattle.std.specs.Prelude.{◌≡◌, ◌<◌, ◌+◌, ◌∷◌, ◌⊎◌, [], List, ℕ, length, map};
+ghost use Rattle.std.specs.Prelude.{◌≡◌, ◌≢◌, ◌<◌, ◌+◌, ◌∷◌, ◌⊎◌, [], List, ℕ, length, map};
 ghost use Rattle.std.specs.Prelude.{Ok, Err, IfOk, OnOk, OnErr};
 ghost use Rattle.sql_value.specs.declared.refusal.Refusal.TheVariants.{NoSuchSavepoint, LimitExceeded, NoMemory};
 ghost use Rattle.spec_history.specs.Serial.{Differ};
@@ -27,7 +27,7 @@ const MOST_SAVEPOINTS: usize = 64;
 /// table that it touched, and its savepoints.
 #[derive(Drop)]
 pub struct TxCtx<H: Hash32> {
-    trees: Vec<TableTree<H>>,
+    trees: Vec<TableTree>,
     savepoints: Vec<Savepoint>,
     id: TxId,
     seq: u64,
@@ -36,7 +36,7 @@ pub struct TxCtx<H: Hash32> {
 }
 
 impl<H: Hash32> TxCtx<H> {
-    ghost use Rattle.store_tx.specs.Represents.{Represents, IsOpen, MayNote};
+    ghost use Rattle.store_tx.specs.Represents.{Represents, HasRoom, MayNote};
 
     /// The context of a transaction that has done nothing yet. Takes no memory.
     pub fn new(alloc: Global, hasher: H, id: TxId, explicit: bool) -> TxCtx<H>
@@ -66,15 +66,15 @@ impl<H: Hash32> TxCtx<H> {
         self.seq
     }
 
-    /// Opens a tree for a table, so that its events may be noted. The tree has no leaf before the first one
-    /// is, so the context is of the same transaction as before, also after want of memory.
-    pub fn open_tree(&mut self, table: TableId) -> Result<(), Memory>
+    /// Makes room for so many more events of a table, of which each may be noted then. The context is of the same
+    /// transaction as before, also after want of memory.
+    pub fn open_tree(&mut self, table: TableId, count: usize) -> Result<(), Memory>
         ensures same { (h : H) (o : OpenTransaction) → Represents H.digest h self.old o
             → Represents H.digest h self.new o }
-        ensures ok { OnOk result (IsOpen table self.new) }
-        ensures open { (id : ℕ) → IsOpen id self.old → IsOpen id self.new }
+        ensures ok { OnOk result (HasRoom count table self.new) }
+        ensures room { (n id : ℕ) → HasRoom n id self.old → HasRoom n id self.new }
     {
-        open(self.hasher, &mut self.trees, table)
+        open(*self.trees.allocator(), &mut self.trees, table, count)
     }
 
     /// Adds the leaf of an event to the tree of its table, and counts the event. Takes no memory.
@@ -82,9 +82,10 @@ impl<H: Hash32> TxCtx<H> {
         requires { MayNote H.digest table self.old }
         ensures noted { (h : H) (o : OpenTransaction) → Represents H.digest h self.old o
             → Represents H.digest h self.new (noting (o.seq + 1) (with_leaf table leaf.now o.trees) o) }
-        ensures open { (id : ℕ) → IsOpen id self.old → IsOpen id self.new }
+        ensures room { (n : ℕ) → HasRoom (n + 1) table self.old → HasRoom n table self.new }
+        ensures others { (n id : ℕ) → id ≢ table → HasRoom n id self.old → HasRoom n id self.new }
     {
-        push_leaf(&mut self.trees, table, leaf);
+        push_leaf(self.hasher, &mut self.trees, table, leaf);
         self.seq += 1;
     }
 
@@ -98,7 +99,7 @@ impl<H: Hash32> TxCtx<H> {
             → length o.open_savepoints ≡ max_savepoints → result ≡ Err LimitExceeded }
         ensures room { (h : H) (o : OpenTransaction) → Represents H.digest h self.old o
             → length o.open_savepoints < max_savepoints → (result ≡ Ok tt) ⊎ (result ≡ Err NoMemory) }
-        ensures open { (id : ℕ) → IsOpen id self.old → IsOpen id self.new }
+        ensures open { (n id : ℕ) → HasRoom n id self.old → HasRoom n id self.new }
         ensures err { OnErr result ((h : H) (o : OpenTransaction) → Represents H.digest h self.old o
             → Represents H.digest h self.new o) }
     {
@@ -123,7 +124,7 @@ impl<H: Hash32> TxCtx<H> {
             → (result ≡ Ok f.seq) × Represents H.digest h self.new (with_undo_state f.seq f.trees (f ∷ fs) o) }
         ensures none { (h : H) (o : OpenTransaction) → Represents H.digest h self.old o
             → savepoints_from name.now o.open_savepoints ≡ [] → (result ≡ Err NoSuchSavepoint) × (self.new ≡ self.old) }
-        ensures open { (id : ℕ) → IsOpen id self.old → IsOpen id self.new }
+        ensures open { (n id : ℕ) → HasRoom n id self.old → HasRoom n id self.new }
     {
         let kept = kept_by(&self.savepoints, name);
         if kept == 0 {
@@ -131,7 +132,7 @@ impl<H: Hash32> TxCtx<H> {
         }
         self.savepoints.truncate(kept);
         let savepoint = &self.savepoints[kept - 1];
-        restore_all(self.hasher, &mut self.trees, &savepoint.marks);
+        restore_all(&mut self.trees, &savepoint.marks);
         self.seq = savepoint.seq;
         Ok(self.seq)
     }
@@ -149,6 +150,6 @@ impl<H: Hash32> TxCtx<H> {
         ensures { IfOk result (λ roots. (h : H) (o : OpenTransaction) → Represents H.digest h self.now o
             → Differ (map (λ t. t.table) o.trees) → roots ≡ roots_of_trees (H.digest h) o.trees) }
     {
-        roots_of(alloc, &self.trees)
+        roots_of(alloc, self.hasher, &self.trees)
     }
 }

@@ -2,6 +2,7 @@
 #![tactic(auto)]
 
 mod context;
+mod leaf_hashes;
 mod roots;
 mod savepoint;
 mod tree;

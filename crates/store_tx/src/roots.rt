@@ -2,11 +2,11 @@
 
 ghost use Rattle.std.specs.Prelude.{◌≡◌, ◌≤◌, nat_le, length, map, IfOk, OnOk, List, ℕ};
 ghost use Rattle.std.specs.List.{list_all, position, position_or_len};
-ghost use Rattle.base_merkle.specs.Holds.{Holds};
 ghost use Rattle.spec_history.specs.Serial.{Differ};
 ghost use Rattle.spec_model.specs.Lists.{inserted};
 ghost use Rattle.spec_protocol.specs.LedgerVisits.{is_empty};
 ghost use Rattle.spec_protocol.specs.Seats.{Tree};
+ghost use Rattle.store_tx.specs.LeafHashes.{IsTree};
 ghost use Rattle.store_tx.specs.Roots.{by_root, roots_of_trees, with_root};
 ghost use Rattle.store_tx.specs.Trees.{TreesHold, tables_of};
 
@@ -43,26 +43,29 @@ fn insert_root(
 
 // Adds the root of a tree, where it has a leaf.
 fn add_root<H: Hash32>(
-    tree: &TableTree<H>,
+    alloc: Global,
+    hasher: H,
+    tree: &TableTree,
     roots: &mut Vec<(TableId, [u8; 32])>,
 ) -> Result<(), Memory>
-    ensures { OnOk result ((h : H) (leaves : List (List ℕ)) → Holds H.digest h tree.now.frontier leaves
-        → roots.new.items ≡ with_root (H.digest h) tree.now.table leaves roots.old.items) }
+    ensures { OnOk result ((leaves : List (List ℕ)) → IsTree (H.digest hasher) tree.now.leaves leaves
+        → roots.new.items ≡ with_root (H.digest hasher) tree.now.table leaves roots.old.items) }
 {
-    if tree.frontier.count() == 0 {
+    if tree.leaves.count() == 0 {
         return Ok(());
     }
-    insert_root(roots, (tree.table, tree.frontier.root()))
+    let root = tree.leaves.root(alloc, hasher)?;
+    insert_root(roots, (tree.table, root))
 }
 
 /// Whether no tree has a leaf.
-pub fn have_no_leaf<H: Hash32>(trees: &[TableTree<H>]) -> bool
-    ensures { (h : H) (model : List Tree) → Differ (tables_of trees.now)
-        → Differ (map (λ t. t.table) model) → TreesHold H.digest h trees.now model
+pub fn have_no_leaf(trees: &[TableTree]) -> bool
+    ensures { (h : List ℕ → List ℕ) (model : List Tree) → Differ (tables_of trees.now)
+        → Differ (map (λ t. t.table) model) → TreesHold h trees.now model
         → result ≡ list_all (λ t. is_empty t.leaves) model }
 {
     for tree in trees {
-        if tree.frontier.count() != 0 {
+        if tree.leaves.count() != 0 {
             return false;
         }
     }
@@ -72,15 +75,16 @@ pub fn have_no_leaf<H: Hash32>(trees: &[TableTree<H>]) -> bool
 /// The root of each tree that has a leaf, by rising table.
 pub fn roots_of<H: Hash32>(
     alloc: Global,
-    trees: &[TableTree<H>],
+    hasher: H,
+    trees: &[TableTree],
 ) -> Result<Items<(TableId, [u8; 32])>, Memory>
-    ensures { IfOk result (λ roots. (h : H) (model : List Tree) → Differ (tables_of trees.now)
-        → Differ (map (λ t. t.table) model) → TreesHold H.digest h trees.now model
-        → roots ≡ roots_of_trees (H.digest h) model) }
+    ensures { IfOk result (λ roots. (model : List Tree) → Differ (tables_of trees.now)
+        → Differ (map (λ t. t.table) model) → TreesHold (H.digest hasher) trees.now model
+        → roots ≡ roots_of_trees (H.digest hasher) model) }
 {
     let mut roots = Vec::with_capacity(alloc, trees.len())?;
     for tree in trees {
-        add_root(tree, &mut roots)?;
+        add_root(alloc, hasher, tree, &mut roots)?;
     }
     Ok(Items::from_vec(roots))
 }

@@ -1,110 +1,96 @@
 //! The trees of a transaction, one for each table.
 
-ghost use Rattle.std.specs.Prelude.{◌≡◌, ◌≢◌, ◌==◌, ◌++◌, ◌∷◌, []};
-ghost use Rattle.std.specs.Prelude.{IfOk, OnOk, List, ℕ, Some, length, slice_get};
+ghost use Rattle.std.specs.Prelude.{◌≡◌, ◌≢◌, ◌==◌, ◌≤◌, ◌<◌, ◌+◌, ◌++◌, ◌∷◌, []};
+ghost use Rattle.std.specs.Prelude.{IfOk, OnOk, List, ℕ, length, map, take, get_or};
 ghost use Rattle.std.specs.List.{position};
-ghost use Rattle.std.specs.Option.{option_copied};
-ghost use Rattle.base_merkle.specs.declared.frontier.Frontier.{Frontier as SpecFrontier};
 ghost use Rattle.spec_history.specs.Serial.{Differ};
-ghost use Rattle.base_merkle.specs.Holds.{MayAddLeaf, Holds};
-ghost use Rattle.store_tx.specs.Trees.{IsTree, IsMark, mark_of, tables_of, tree_of};
+ghost use Rattle.store_tx.specs.LeafHashes.{leaf_hash};
+ghost use Rattle.store_tx.specs.Trees.{count_of, tables_of, tree_of};
 
-use base_merkle::{Frontier, FrontierMark, Hash32};
+use crate::leaf_hashes::LeafHashes;
+use base_merkle::Hash32;
 use base_types::{Memory, TableId};
 use std::alloc::Global;
 
-/// The tree over a transaction's events in one table.
+/// The tree over a transaction's events in one table: the hashes of its leaves.
 #[derive(Drop)]
-pub struct TableTree<H: Hash32> {
-    pub frontier: Frontier<H>,
+pub struct TableTree {
+    pub leaves: LeafHashes,
     pub table: TableId,
 }
 
-fn place_of<H: Hash32>(trees: &[TableTree<H>], table: TableId) -> Option<usize>
+fn place_of(trees: &[TableTree], table: TableId) -> Option<usize>
     ensures { result ≡ position (λ t. t.table == table) trees.now }
 {
     trees.iter().position(|tree| tree.table == table)
 }
 
-/// Makes a tree for the table, behind the others, where it has none. After want of memory each table has
-/// what it had.
-pub fn open<H: Hash32>(
-    hasher: H,
-    trees: &mut Vec<TableTree<H>>,
+/// Makes room for so many more leaves in the tree of the table, which comes behind the others where there is none.
+/// After want of memory each table has what it had.
+pub fn open(
+    alloc: Global,
+    trees: &mut Vec<TableTree>,
     table: TableId,
+    count: usize,
 ) -> Result<(), Memory>
-    ensures leaves { (id : ℕ) (leaves : List (List ℕ))
-        → IsTree H.digest hasher (tree_of id trees.old.items) leaves
-        → IsTree H.digest hasher (tree_of id trees.new.items) leaves }
-    ensures others { (id : ℕ) (f : SpecFrontier H) → tree_of id trees.old.items ≡ Some f
-        → tree_of id trees.new.items ≡ Some f }
+    ensures hashes { (id : ℕ) → (tree_of id trees.new.items).hashes ≡ (tree_of id trees.old.items).hashes }
+    ensures rooms { (id : ℕ) → (tree_of id trees.old.items).room ≤ (tree_of id trees.new.items).room }
     ensures tables { (more : List ℕ) × (tables_of trees.new.items ≡ tables_of trees.old.items ++ more) }
     ensures differ { Differ (tables_of trees.old.items) → Differ (tables_of trees.new.items) }
-    ensures ok { OnOk result ((f : SpecFrontier H) × (tree_of table trees.new.items ≡ Some f)) }
+    ensures ok { OnOk result (count ≤ (tree_of table trees.new.items).room) }
 {
-    if place_of(trees, table).is_none() {
-        let frontier = Frontier::new(hasher);
-        trees.push(TableTree { frontier, table })?;
+    match place_of(trees, table) {
+        Some(place) => trees[place].leaves.reserve(count),
+        None => {
+            let leaves = LeafHashes::with_room(alloc, count)?;
+            trees.push(TableTree { leaves, table })?;
+            Ok(())
+        }
     }
-    Ok(())
 }
 
-/// Adds a leaf to the tree of the table, which is to be open.
-pub fn push_leaf<H: Hash32>(trees: &mut Vec<TableTree<H>>, table: TableId, leaf: &[u8])
-    requires open { (f : SpecFrontier H) × (tree_of table trees.old.items ≡ Some f) × MayAddLeaf H.digest f }
-    ensures here { (h : H) (leaves : List (List ℕ)) → IsTree H.digest h (tree_of table trees.old.items) leaves
-        → IsTree H.digest h (tree_of table trees.new.items) (leaves ++ leaf.now ∷ []) }
+/// Adds a leaf to the tree of the table, in which there is to be room. Takes no memory.
+pub fn push_leaf<H: Hash32>(hasher: H, trees: &mut Vec<TableTree>, table: TableId, leaf: &[u8])
+    requires { 0 < (tree_of table trees.old.items).room }
+    ensures here { (tree_of table trees.new.items).hashes
+        ≡ (tree_of table trees.old.items).hashes ++ leaf_hash (H.digest hasher) leaf.now ∷ [] }
+    ensures room { (tree_of table trees.new.items).room + 1 ≡ (tree_of table trees.old.items).room }
     ensures others { (id : ℕ) → id ≢ table → tree_of id trees.new.items ≡ tree_of id trees.old.items }
-    ensures open { (f : SpecFrontier H) × (tree_of table trees.new.items ≡ Some f) }
     ensures tables { tables_of trees.new.items ≡ tables_of trees.old.items }
 {
     let place = place_of(trees, table).unwrap();
-    trees[place].frontier.push_leaf(leaf);
+    trees[place].leaves.push(hasher, leaf);
 }
 
-/// A mark of each tree.
-pub fn marks_of<H: Hash32>(
-    alloc: Global,
-    trees: &[TableTree<H>],
-) -> Result<Vec<FrontierMark>, Memory>
-    ensures placed { IfOk result (λ marks. length marks.items ≡ length trees.now) }
-    ensures marks { IfOk result (λ marks. (h : H) (id : ℕ) (leaves : List (List ℕ))
-        → IsTree H.digest h (tree_of id trees.now) leaves
-        → IsMark (H.digest h) (mark_of id (tables_of trees.now) marks.items) leaves) }
+/// A mark of each tree: how many leaves it has.
+pub fn marks_of(alloc: Global, trees: &[TableTree]) -> Result<Vec<usize>, Memory>
+    ensures { IfOk result (λ marks. marks.items ≡ map (λ t. length t.leaves.hashes) trees.now) }
 {
     let mut marks = Vec::with_capacity(alloc, trees.len())?;
     for tree in trees {
-        marks.push(tree.frontier.save())?;
+        marks.push(tree.leaves.count())?;
     }
     Ok(marks)
 }
 
-fn mark_at(marks: &[FrontierMark], place: usize) -> Option<&FrontierMark>
-    ensures { option_copied result ≡ slice_get marks.now place }
+// The mark of the tree at a place, where it had leaves.
+fn count_at(marks: &[usize], place: usize) -> usize
+    ensures { result ≡ get_or marks.now place 0 }
 {
-    marks.get(place)
-}
-
-// Takes a tree back to its mark, or to no leaves where it has none.
-fn restore<H: Hash32>(hasher: H, tree: &mut Frontier<H>, mark: Option<&FrontierMark>)
-    ensures { (leaves before : List (List ℕ)) → Holds H.digest hasher tree.old leaves
-        → IsMark (H.digest hasher) (option_copied mark.entry) before → Holds H.digest hasher tree.new before }
-{
-    match mark {
-        Some(mark) => tree.restore(mark),
-        None => *tree = Frontier::new(hasher),
+    match marks.get(place) {
+        Some(count) => *count,
+        None => 0,
     }
 }
 
 /// Takes each tree back to its mark. Those that were opened behind the marked ones have no leaf then.
-pub fn restore_all<H: Hash32>(hasher: H, trees: &mut Vec<TableTree<H>>, marks: &[FrontierMark])
-    ensures leaves { (id : ℕ) (leaves before : List (List ℕ))
-        → IsTree H.digest hasher (tree_of id trees.old.items) leaves
-        → IsMark (H.digest hasher) (mark_of id (tables_of trees.old.items) marks.now) before
-        → IsTree H.digest hasher (tree_of id trees.new.items) before }
+pub fn restore_all(trees: &mut Vec<TableTree>, marks: &[usize])
+    ensures hashes { (id : ℕ) → (tree_of id trees.new.items).hashes
+        ≡ take (count_of id (tables_of trees.old.items) marks.now) (tree_of id trees.old.items).hashes }
+    ensures rooms { (id : ℕ) → (tree_of id trees.old.items).room ≤ (tree_of id trees.new.items).room }
     ensures tables { tables_of trees.new.items ≡ tables_of trees.old.items }
 {
     for place in 0..trees.len() {
-        restore(hasher, &mut trees[place].frontier, mark_at(marks, place));
+        trees[place].leaves.truncate(count_at(marks, place));
     }
 }

@@ -2,7 +2,7 @@ use Rattle.std.proofs.Common.{◌+◌, ap, arith, subst, sym, length, List, ℕ}
 use Rattle.sql_types.specs.declared.table.TableDef.{TableDef}
 use Rattle.spec_protocol.specs.Moves.{noting}
 use Rattle.spec_protocol.specs.Seats.{OpenTransaction}
-use Rattle.store_tx.specs.Represents.{IsOpen, Represents}
+use Rattle.store_tx.specs.Represents.{HasRoom, Represents}
 use Rattle.store_table.specs.Made.{with_leaves}
 use Rattle.store_table.proofs.Written.{rows_written, may_note_all, leaves_count}
 use Rattle.store_table.proofs.writing.change_rows.Goals as goal
@@ -15,7 +15,7 @@ note_all-requires-after_bounds g c κs within =
     let long = ap length c.deref.ensures.value in
     let few = c.in_ok-worked.ensures.ok.room in
     may_note_all g.H.Hash32.digest c.id-tx.result c.seq-seq.result c.args.ctx.now c.id-tx.ensures c.seq-seq.ensures c.def.result.now.id (length c.deref.result.now) c.args.store.now.stored.versions
-    c.make_room.new.ctx c.requires.before c.make_room.ensures.context (subst (λ (d : TableDef). IsOpen d.id c.make_room.new.ctx) (sym c.def.ensures) c.in_ok-make_room.ensures.open) (omega (arith, count, long, few))
+    c.make_room.new.ctx c.requires.before c.make_room.ensures.context (let room = subst (λ (d : TableDef). HasRoom _ d.id c.make_room.new.ctx) (sym c.def.ensures) c.in_ok-make_room.ensures.open in omega (arith, count, long, c.len.ensures, room)) (omega (arith, count, long, few))
 
 pub returns-clause-ok : goal.returns-clause-ok
 returns-clause-ok g c =

@@ -1,38 +1,40 @@
-use Rattle.std.proofs.Common.{sym, ap, ◌∙◌, subst, ◌∷◌, ◌++◌, []}
+use Rattle.std.proofs.Common.{◌<◌, ◌∷◌, [], ap, ◌∙◌, subst, sym}
 use Rattle.std.specs.Prelude.{◌==◌}
 use Rattle.std.specs.List.{position}
 use Rattle.std.specs.Option.{IsSome}
-use Rattle.store_tx.proofs.Trees.{has_place, room_there, pushed_here, pushed_elsewhere, pushed_open, pushed_at, set_tables}
+use Rattle.store_tx.specs.LeafHashes.{LeafHashes}
+use Rattle.store_tx.proofs.Trees.{first_at, found, has_place, has_room, leaf_there, less_room, set_elsewhere, set_tables}
 use Rattle.store_tx.proofs.tree.push_leaf.Goals as goal
 
 pub unwrap-place-requires : goal.unwrap-place-requires
 unwrap-place-requires g c = subst (λ o. IsSome o)
     (sym (c.place_of.ensures ∙ ap (position (λ t. t.table == c.args.table)) c.deref.ensures.value))
-    (has_place c.args.table c.args.trees.now.items c.requires.open.0 c.requires.open.1)
+    (has_place c.args.table c.args.trees.now.items (has_room c.args.table c.args.trees.now.items c.requires))
 
-pub push_leaf-requires-after_bounds : goal.push_leaf-requires-after_bounds
-push_leaf-requires-after_bounds g c κs within = room_there g.H.Hash32.digest c.args.table c.args.trees.now.items c.unwrap-place.result c.index_mut.result.now
-    (pushed_at c.args.table c.args.trees.now.items c.place_of.result c.unwrap-place.result c.index_mut.result.now
-    (c.place_of.ensures ∙ ap (position (λ t. t.table == c.args.table)) c.deref.ensures.value) c.unwrap-place.ensures c.index_mut.ensures.value)
-    c.requires.open
+pub push-requires-after_bounds : goal.push-requires-after_bounds
+push-requires-after_bounds g c κs within = subst (λ (l : LeafHashes). 0 < l.room)
+    (found c.args.table c.args.trees.now.items c.unwrap-place.result c.index_mut.result.now
+    (first_at c.args.table c.args.trees.now.items c.place_of.result c.unwrap-place.result c.index_mut.result.now
+    (c.place_of.ensures ∙ ap (position (λ t. t.table == c.args.table)) c.deref.ensures.value) c.unwrap-place.ensures c.index_mut.ensures.value))
+    c.requires
 
 pub returns-clause-here : goal.returns-clause-here
-returns-clause-here g c = λ h leaves. pushed_here g.H.Hash32.digest h c.args.table c.args.trees.now.items c.unwrap-place.result c.index_mut.result.now
-    (pushed_at c.args.table c.args.trees.now.items c.place_of.result c.unwrap-place.result c.index_mut.result.now
+returns-clause-here g c = leaf_there c.args.table c.args.trees.now.items c.unwrap-place.result c.index_mut.result.now
+    (first_at c.args.table c.args.trees.now.items c.place_of.result c.unwrap-place.result c.index_mut.result.now
     (c.place_of.ensures ∙ ap (position (λ t. t.table == c.args.table)) c.deref.ensures.value) c.unwrap-place.ensures c.index_mut.ensures.value)
-    c.push_leaf.new.self leaves (leaves ++ c.args.leaf.now ∷ []) (c.push_leaf.ensures h leaves)
+    c.push.new.self (g.H.Hash32.digest c.args.hasher (0 ∷ c.args.leaf.now) ∷ []) c.push.ensures.hashes
+
+pub returns-clause-room : goal.returns-clause-room
+returns-clause-room g c = less_room c.args.table c.args.trees.now.items c.unwrap-place.result c.index_mut.result.now
+    (first_at c.args.table c.args.trees.now.items c.place_of.result c.unwrap-place.result c.index_mut.result.now
+    (c.place_of.ensures ∙ ap (position (λ t. t.table == c.args.table)) c.deref.ensures.value) c.unwrap-place.ensures c.index_mut.ensures.value)
+    c.push.new.self c.push.ensures.room
 
 pub returns-clause-others : goal.returns-clause-others
-returns-clause-others g c = λ id. pushed_elsewhere id c.args.table c.args.trees.now.items c.unwrap-place.result c.index_mut.result.now
-    (pushed_at c.args.table c.args.trees.now.items c.place_of.result c.unwrap-place.result c.index_mut.result.now
+returns-clause-others g c = set_elsewhere c.args.table c.args.trees.now.items c.unwrap-place.result c.index_mut.result.now
+    (first_at c.args.table c.args.trees.now.items c.place_of.result c.unwrap-place.result c.index_mut.result.now
     (c.place_of.ensures ∙ ap (position (λ t. t.table == c.args.table)) c.deref.ensures.value) c.unwrap-place.ensures c.index_mut.ensures.value)
-    c.push_leaf.new.self
-
-pub returns-clause-open : goal.returns-clause-open
-returns-clause-open g c = pushed_open c.args.table c.args.trees.now.items c.unwrap-place.result c.index_mut.result.now
-    (pushed_at c.args.table c.args.trees.now.items c.place_of.result c.unwrap-place.result c.index_mut.result.now
-    (c.place_of.ensures ∙ ap (position (λ t. t.table == c.args.table)) c.deref.ensures.value) c.unwrap-place.ensures c.index_mut.ensures.value)
-    c.push_leaf.new.self
+    c.push.new.self
 
 pub returns-clause-tables : goal.returns-clause-tables
 returns-clause-tables g c = set_tables c.args.trees.now.items c.unwrap-place.result c.index_mut.result.now _ (ap (λ t. t.table) c.index_mut.ensures.value)

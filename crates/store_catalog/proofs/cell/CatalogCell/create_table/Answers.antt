@@ -1,4 +1,4 @@
-use Rattle.std.proofs.Common.{◌≡◌, refl, sym, ap, subst, ◌∙◌, List, length, arith, Option}
+use Rattle.std.proofs.Common.{◌≡◌, refl, sym, ap, subst, ◌∙◌, ℕ, List, length, arith, Option}
 use Rattle.sql_types.specs.declared.change.Change.{Change}
 use Rattle.spec_model.specs.SystemTables.{columns_id}
 use Rattle.law_journal.proofs.Created.{created}
@@ -28,8 +28,8 @@ note_both-requires-after_bounds g c κs within =
       h = m.h;
       o = m.o;
       is = c.open_both.ensures.same m.h m.o m.is;
-      tables = c.in_ok-open_both.ensures.tables;
-      columns = c.in_ok-open_both.ensures.columns;
+      tables = (let room = c.in_ok-open_both.ensures.tables in omega (arith, ap (λ (ls : List (List ℕ)). length ls) c.as_slice.ensures, c.len.ensures, room));
+      columns = (let room = c.in_ok-open_both.ensures.columns in omega (arith, ap (λ (ls : List (List ℕ)). length ls) c.as_slice-2.ensures, c.len-2.ensures, room));
       room = leaves_room cell c.id-tx.result c.seq-seq.result c.args.create.now new changes_worked_out c.as_slice.result.now c.as_slice-2.result.now c.as_slice.ensures c.as_slice-2.ensures m.o.seq (c.seq-seq.ensures m.h m.o m.is);
     }
 

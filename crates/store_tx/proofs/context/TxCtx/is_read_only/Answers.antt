@@ -6,5 +6,5 @@ use Rattle.store_tx.proofs.context.TxCtx.is_read_only.Goals as goal
 pub returns : goal.returns
 returns g c = λ h o represents differ.
     let back = sym c.deref.ensures.value in
-    c.have_no_leaf.ensures h o.trees (subst (λ ts. Differ (tables_of ts)) back represents.differ) differ
-    (subst (λ ts. TreesHold g.H.Hash32.digest h ts o.trees) back represents.trees)
+    c.have_no_leaf.ensures (g.H.Hash32.digest h) o.trees (subst (λ ts. Differ (tables_of ts)) back represents.differ) differ
+    (subst (λ ts. TreesHold (g.H.Hash32.digest h) ts o.trees) back represents.trees)

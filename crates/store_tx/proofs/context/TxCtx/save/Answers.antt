@@ -18,4 +18,4 @@ pub returns-clause-full : goal.returns-clause-full
 returns-clause-full g c = λ h o r full. absurd (not_full g.H.Hash32.digest h c.args.self.now o r (search rules) full)
 
 pub returns-clause-ok : goal.returns-clause-ok
-returns-clause-ok g c = λ h o r. saved g.H.Hash32.digest h c.args.self.now _ o _ c.args.name.now (record { hasher = refl; id = refl; explicit = refl }) refl refl c.in_ok-push.ensures.items (search rules) (search rules) refl (search rules) (search rules) r
+returns-clause-ok g c = λ h o r. saved g.H.Hash32.digest h c.args.self.now _ o _ c.args.name.now (record { hasher = refl; id = refl; explicit = refl }) refl refl c.in_ok-push.ensures.items (search rules) (search rules) refl (search rules) r
