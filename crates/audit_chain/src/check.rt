@@ -7,7 +7,7 @@ ghost use Rattle.audit_chain.specs.Joins.{Joins};
 
 use audit_receipt::leads_to;
 use base_merkle::Hash32;
-use base_types::first_of;
+use base_types::{Hash, first_of};
 use format_chain::Chain;
 use format_entry::block_hash;
 use sql_types::{BlockRecord, HeldDigest};
@@ -36,7 +36,7 @@ fn is_equal(a: &[u8], b: &[u8]) -> bool
     a == b
 }
 
-fn first_hash<H: Hash32>(h: H, records: &[BlockRecord]) -> [u8; 32]
+fn first_hash<H: Hash32>(h: H, records: &[BlockRecord]) -> Hash
     ensures { result ≡ first_or_no_hash (H.digest h) records.now }
 {
     match first_of(records) {

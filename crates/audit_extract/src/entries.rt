@@ -16,7 +16,7 @@ use crate::found::ImageComparison;
 use crate::leaves::{Leaf, copied, leaves_of, same_bytes, sorted_leaves};
 use crate::trees::find_in_trees;
 use base_merkle::Hash32;
-use base_types::{Memory, TableId, TxId};
+use base_types::{Hash, Memory, TableId, TxId};
 use format_event::equal_leaves_are_of_equal_events;
 use sql_types::{BlockRecord, HeldDigest, Image, TxEntry};
 use std::alloc::Global;
@@ -107,7 +107,7 @@ fn in_tables<H: Hash32>(
     a: &[Leaf],
     b: &[Leaf],
     tx: TxId,
-    roots: &[(TableId, [u8; 32])],
+    roots: &[(TableId, Hash)],
 ) -> Result<ImageComparison, Memory>
     requires sorted_a { IsSorted leaf_cmp a.now }
     requires sorted_b { IsSorted leaf_cmp b.now }

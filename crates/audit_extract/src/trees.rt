@@ -9,7 +9,7 @@ ghost use Rattle.audit_extract.specs.Strings.{AreAtNode, OfCollision};
 
 use crate::found::{Collision, ImageComparison};
 use base_merkle::{Frontier, Hash32};
-use base_types::{Blob, Memory};
+use base_types::{Blob, Hash, Memory};
 use std::alloc::Global;
 
 /// Of two different lists of leaves that have one tree hash, two different byte strings with one hash: what is
@@ -94,7 +94,7 @@ fn hashed_bytes<H: Hash32>(alloc: Global, h: H, leaves: &[Blob]) -> Result<Blob,
 }
 
 /// The tree hash of some leaves (RFC 6962, section 2.1).
-pub fn tree_root<H: Hash32>(h: H, leaves: &[Blob]) -> [u8; 32]
+pub fn tree_root<H: Hash32>(h: H, leaves: &[Blob]) -> Hash
     requires { length leaves.now < 2 ^ 63 }
     ensures { result ≡ tree_hash (H.digest h) leaves.now }
 {

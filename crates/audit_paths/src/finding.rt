@@ -11,7 +11,7 @@ use crate::nodes::{leaf_bytes, node_bytes};
 use crate::path::{parted, root_under};
 use audit_extract::Collision;
 use base_merkle::Hash32;
-use base_types::{Blob, Memory};
+use base_types::{Blob, Hash, Memory};
 use std::alloc::Global;
 
 /// Of two different leaves that their paths lead to one root from one place, two different byte strings with
@@ -22,8 +22,8 @@ pub fn find_in_paths<H: Hash32>(
     h: H,
     place: usize,
     count: usize,
-    a: (&[u8], &[[u8; 32]]),
-    b: (&[u8], &[[u8; 32]]),
+    a: (&[u8], &[Hash]),
+    b: (&[u8], &[Hash]),
 ) -> Result<Collision, Memory>
     requires few { count < 2 ^ 63 }
     requires a_path { AreHashes a.1.now }
@@ -61,9 +61,9 @@ fn bytes_above<H: Hash32>(
     alloc: Global,
     h: H,
     leaf: &[u8],
-    below: &[[u8; 32]],
+    below: &[Hash],
     half: &Half,
-    other: &[u8; 32],
+    other: &Hash,
 ) -> Result<Blob, Memory>
     requires few { half.now.count < 2 ^ 63 }
     requires root { IsSome (root_under (H.digest h) below.now half.now.place half.now.count leaf.now) }

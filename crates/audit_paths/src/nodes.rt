@@ -5,18 +5,18 @@ ghost use Rattle.audit_paths.specs.Path.{node_of};
 
 use crate::side::Side;
 use base_merkle::Hash32;
-use base_types::{Blob, Memory};
+use base_types::{Blob, Hash, Memory};
 use std::alloc::Global;
 
 /// The hash of a leaf.
-pub(crate) fn leaf_hash<H: Hash32>(h: H, leaf: &[u8]) -> [u8; 32]
+pub(crate) fn leaf_hash<H: Hash32>(h: H, leaf: &[u8]) -> Hash
     ensures { result ≡ H.digest h (0 ∷ leaf.now) }
 {
     h.hash(&[0], leaf)
 }
 
 /// The hash of the node that has one half and on this side the other.
-pub(crate) fn node_hash<H: Hash32>(h: H, half: &[u8; 32], side: Side, other: &[u8; 32]) -> [u8; 32]
+pub(crate) fn node_hash<H: Hash32>(h: H, half: &Hash, side: Side, other: &Hash) -> Hash
     ensures { result ≡ H.digest h (node_of (side, other.now) half.now) }
 {
     match side {
@@ -25,7 +25,7 @@ pub(crate) fn node_hash<H: Hash32>(h: H, half: &[u8; 32], side: Side, other: &[u
     }
 }
 
-fn joined_hash<H: Hash32>(h: H, left: &[u8; 32], right: &[u8; 32]) -> [u8; 32]
+fn joined_hash<H: Hash32>(h: H, left: &Hash, right: &Hash) -> Hash
     ensures { result ≡ H.digest h (1 ∷ left.now ++ right.now) }
 {
     let mut head = [1u8; 33];
@@ -46,9 +46,9 @@ pub(crate) fn leaf_bytes(alloc: Global, leaf: &[u8]) -> Result<Blob, Memory>
 /// The bytes whose hash is that of the node that has one half and on this side the other.
 pub(crate) fn node_bytes(
     alloc: Global,
-    half: &[u8; 32],
+    half: &Hash,
     side: Side,
-    other: &[u8; 32],
+    other: &Hash,
 ) -> Result<Blob, Memory>
     ensures { IfOk result (λ bytes. bytes ≡ node_of (side, other.now) half.now) }
 {
@@ -58,7 +58,7 @@ pub(crate) fn node_bytes(
     }
 }
 
-fn joined_bytes(alloc: Global, left: &[u8; 32], right: &[u8; 32]) -> Result<Blob, Memory>
+fn joined_bytes(alloc: Global, left: &Hash, right: &Hash) -> Result<Blob, Memory>
     ensures { IfOk result (λ bytes. bytes ≡ 1 ∷ left.now ++ right.now) }
 {
     let mut bytes = Vec::new(alloc);

@@ -10,7 +10,7 @@ use crate::nodes::{leaf_hash, node_hash};
 use crate::side::Side;
 use audit_extract::{tree_halves, tree_root};
 use base_merkle::Hash32;
-use base_types::{Blob, Items, Memory};
+use base_types::{Blob, Hash, Items, Memory};
 use std::alloc::Global;
 
 /// The audit path of a place, counted from 0, in some leaves (RFC 6962, section 2.1.1): from the leaf up, the
@@ -20,7 +20,7 @@ pub fn audit_path<H: Hash32>(
     h: H,
     place: usize,
     leaves: &[Blob],
-) -> Result<Items<[u8; 32]>, Memory>
+) -> Result<Items<Hash>, Memory>
     requires { length leaves.now < 2 ^ 63 }
     ensures { IfOk result (λ path. path ≡ audit_path (H.digest h) place leaves.now) }
 {
@@ -45,7 +45,7 @@ pub fn audit_steps<H: Hash32>(
     h: H,
     place: usize,
     leaves: &[Blob],
-) -> Result<Items<(Side, [u8; 32])>, Memory>
+) -> Result<Items<(Side, Hash)>, Memory>
     requires { length leaves.now < 2 ^ 63 }
     ensures { IfOk result (λ steps. steps ≡ audit_steps (H.digest h) place leaves.now) }
 {
@@ -84,11 +84,11 @@ fn halves(leaves: &[Blob]) -> (&[Blob], &[Blob])
 /// the same order, and refuse a path that is too short or too long.
 pub fn root_under<H: Hash32>(
     h: H,
-    path: &[[u8; 32]],
+    path: &[Hash],
     place: usize,
     count: usize,
     leaf: &[u8],
-) -> Option<[u8; 32]>
+) -> Option<Hash>
     requires { count < 2 ^ 63 }
     ensures { result ≡ root_under (H.digest h) path.now place count leaf.now }
 {
@@ -112,7 +112,7 @@ pub fn root_under<H: Hash32>(
 }
 
 // All hashes but the last, and the last, if there is one.
-fn last_parted(path: &[[u8; 32]]) -> Option<(&[[u8; 32]], &[u8; 32])>
+fn last_parted(path: &[Hash]) -> Option<(&[Hash], &Hash)>
     ensures { MatchOption result (path.now ≡ []) (λ p. path.now ≡ p.0.now ++ p.1.now ∷ []) }
 {
     if path.is_empty() {
@@ -122,7 +122,7 @@ fn last_parted(path: &[[u8; 32]]) -> Option<(&[[u8; 32]], &[u8; 32])>
 }
 
 /// All hashes but the last, and the last.
-pub(crate) fn parted(path: &[[u8; 32]]) -> (&[[u8; 32]], &[u8; 32])
+pub(crate) fn parted(path: &[Hash]) -> (&[Hash], &Hash)
     requires { path.now ≢ [] }
     ensures { path.now ≡ result.0.now ++ result.1.now ∷ [] }
 {
@@ -131,7 +131,7 @@ pub(crate) fn parted(path: &[[u8; 32]]) -> (&[[u8; 32]], &[u8; 32])
 }
 
 // The hash of the node that has this half, if there is one, and on this side another.
-fn above<H: Hash32>(h: H, half: Option<[u8; 32]>, side: Side, other: &[u8; 32]) -> Option<[u8; 32]>
+fn above<H: Hash32>(h: H, half: Option<Hash>, side: Side, other: &Hash) -> Option<Hash>
     ensures { result ≡ option_map (λ r. H.digest h (node_of (side, other.now) r)) half }
 {
     match half {
@@ -141,7 +141,7 @@ fn above<H: Hash32>(h: H, half: Option<[u8; 32]>, side: Side, other: &[u8; 32]) 
 }
 
 /// The root that some steps give for a leaf.
-pub fn root_over<H: Hash32>(h: H, leaf: &[u8], steps: &[(Side, [u8; 32])]) -> [u8; 32]
+pub fn root_over<H: Hash32>(h: H, leaf: &[u8], steps: &[(Side, Hash)]) -> Hash
     ensures { result ≡ root_over (H.digest h) leaf.now steps.now }
 {
     let mut hash = leaf_hash(h, leaf);

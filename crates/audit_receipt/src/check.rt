@@ -12,7 +12,7 @@ use crate::leaves::entry_leaf;
 use audit_extract::record_at;
 use audit_paths::root_under;
 use base_merkle::Hash32;
-use base_types::{Memory, first_of};
+use base_types::{Hash, Memory, first_of};
 use format_entry::block_hash;
 use format_receipt::Receipt;
 use sql_types::{BlockRecord, HeldDigest, MAX_BLOCK, TxEntry};
@@ -96,13 +96,13 @@ fn are_linked<H: Hash32>(h: H, from: u64, records: &[BlockRecord]) -> bool
     true
 }
 
-fn follows(block: &BlockRecord, id: u64, before: &Option<[u8; 32]>) -> bool
+fn follows(block: &BlockRecord, id: u64, before: &Option<Hash>) -> bool
     ensures { result ≡ (block.now.id == id && keeps_hash before.now block.now) }
 {
     block.id == id && keeps_hash(before, block)
 }
 
-fn keeps_hash(before: &Option<[u8; 32]>, block: &BlockRecord) -> bool
+fn keeps_hash(before: &Option<Hash>, block: &BlockRecord) -> bool
     ensures { result ≡ keeps_hash before.now block.now }
 {
     match before {
@@ -111,7 +111,7 @@ fn keeps_hash(before: &Option<[u8; 32]>, block: &BlockRecord) -> bool
     }
 }
 
-fn last_hash<H: Hash32>(h: H, records: &[BlockRecord]) -> [u8; 32]
+fn last_hash<H: Hash32>(h: H, records: &[BlockRecord]) -> Hash
     ensures { result ≡ last_hash (H.digest h) no_hash records.now }
 {
     let count = records.len();
@@ -126,7 +126,7 @@ fn stands_in<H: Hash32>(
     alloc: Global,
     h: H,
     e: &TxEntry,
-    path: &[[u8; 32]],
+    path: &[Hash],
     records: &[BlockRecord],
 ) -> Result<bool, Memory>
     requires { IsEntry e.now }
@@ -149,7 +149,7 @@ fn stands_in<H: Hash32>(
     }
 }
 
-fn is_root(root: &[u8; 32], found: &Option<[u8; 32]>) -> bool
+fn is_root(root: &Hash, found: &Option<Hash>) -> bool
     ensures { result ≡ is_root root.now found.now }
 {
     match found {

@@ -15,7 +15,7 @@ use crate::leaves::entry_leaves;
 use crate::receipt_err::ReceiptErr;
 use audit_paths::audit_path;
 use base_merkle::Hash32;
-use base_types::{Items, Memory, TxId, first_of};
+use base_types::{Hash, Items, Memory, TxId, first_of};
 use format_receipt::Receipt;
 use sql_types::{BlockRecord, Image, TxEntry};
 use std::alloc::Global;
@@ -121,7 +121,7 @@ fn path_in<H: Hash32>(
     h: H,
     part: &[TxEntry],
     place: u64,
-) -> Result<Items<[u8; 32]>, Memory>
+) -> Result<Items<Hash>, Memory>
     requires { All IsEntry part.now }
     ensures { IfOk result (λ path. path ≡ audit_path (H.digest h) place (map entry_bytes part.now)) }
 {

@@ -10,7 +10,7 @@ ghost use Rattle.spec_ledger.specs.Entries as spec;
 ghost use Rattle.audit_replay.specs.Reached.{HaveLeaves};
 
 use base_merkle::{Frontier, Hash32};
-use base_types::{Items, Memory, Name, TableId, TxId};
+use base_types::{Hash, Items, Memory, Name, TableId, TxId};
 use format_event::write_event;
 use law_events::have_room;
 use sql_apply::events_of;
@@ -47,7 +47,7 @@ fn roots_of<H: Hash32>(
     h: H,
     id: TxId,
     tables: &[Table],
-) -> Result<Items<(TableId, [u8; 32])>, Memory>
+) -> Result<Items<(TableId, Hash)>, Memory>
     requires short { AreShort tables.now }
     requires leaves { HaveLeaves id tables.now }
     ensures { IfOk result (λ roots. roots ≡ spec.roots_of (H.digest h) id tables.now) }
@@ -65,7 +65,7 @@ fn add_root<H: Hash32>(
     h: H,
     id: TxId,
     table: &Table,
-    roots: &mut Vec<(TableId, [u8; 32])>,
+    roots: &mut Vec<(TableId, Hash)>,
 ) -> Result<(), Memory>
     requires short { AreShort (table.now ∷ []) }
     requires leaves { HaveLeaves id (table.now ∷ []) }
@@ -105,7 +105,7 @@ fn push_event<H: Hash32>(
 }
 
 /// The tree hash over the leaves of the events.
-fn root_of<H: Hash32>(alloc: Global, h: H, events: &[Event]) -> Result<[u8; 32], Memory>
+fn root_of<H: Hash32>(alloc: Global, h: H, events: &[Event]) -> Result<Hash, Memory>
     requires leaves { AllByRecursion HasLeaf events.now }
     requires few { length events.now < 2 ^ 63 }
     ensures { IfOk result (λ root. root ≡ tree_hash (H.digest h) (map event_bytes events.now)) }

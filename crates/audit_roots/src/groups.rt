@@ -22,7 +22,7 @@ use crate::marks::{Mark, run_of, sorted_marks};
 use crate::roots::{ScratchSpace, TableRoot, least_among, lesser, put_roots, root_at, same_root};
 use crate::shown::{ImageTable, shown_tables};
 use base_merkle::Hash32;
-use base_types::{Memory, TableId};
+use base_types::{Hash, Memory, TableId};
 use format_image::Image;
 use sql_system::first_tables;
 use sql_types::TxEntry;
@@ -106,7 +106,7 @@ pub fn wrong_root<H: Hash32>(
     entries: &[TxEntry],
     tables: &[ImageTable],
     marks: &[Mark],
-    hashes: &[[u8; 32]],
+    hashes: &[Hash],
     from: usize,
     count: usize,
 ) -> Result<Option<(u64, TableId)>, Memory>
@@ -132,7 +132,7 @@ fn wrong_table<H: Hash32>(
     entry: &TxEntry,
     tables: &[ImageTable],
     marks: &[Mark],
-    hashes: &[[u8; 32]],
+    hashes: &[Hash],
     work: &mut ScratchSpace,
 ) -> Result<Option<TableId>, Memory>
     requires rise { IsNonDecreasingBy tx_of marks.now }

@@ -7,7 +7,7 @@ ghost use Rattle.audit_roots.specs.Marks.{event_of, leaf_hash, is_end, is_start,
 
 use crate::marks::{Mark, put_leaf};
 use base_merkle::{Hash32, leaf_hash};
-use base_types::Memory;
+use base_types::{Hash, Memory};
 use format_roots::four_leaf_hashes;
 use std::alloc::Global;
 
@@ -29,7 +29,7 @@ fn set_leaf(leaf: &mut Vec<u8>, mark: &Mark) -> Result<(), Memory>
     put_leaf(mark, leaf)
 }
 
-fn one_hash<H: Hash32>(hasher: H, leaf: &mut Vec<u8>, mark: &Mark) -> Result<[u8; 32], Memory>
+fn one_hash<H: Hash32>(hasher: H, leaf: &mut Vec<u8>, mark: &Mark) -> Result<Hash, Memory>
     requires { HasValues mark.now }
     ensures { IfOk result (λ hash. hash ≡ leaf_hash (H.digest hasher) mark.now) }
 {
@@ -44,7 +44,7 @@ fn four_hashes<H: Hash32>(
     b: &Mark,
     c: &Mark,
     d: &Mark,
-) -> Result<[[u8; 32]; 4], Memory>
+) -> Result<[Hash; 4], Memory>
     requires first { HasValues a.now }
     requires second { HasValues b.now }
     requires third { HasValues c.now }
@@ -65,11 +65,7 @@ const TOGETHER: usize = 1024;
 
 /// The hashes of the leaves, in their order. The only error is want of memory.
 #[tactic(auto, using(crate::proofs::Hashed::hashes_next))]
-pub fn leaf_hashes<H: Hash32>(
-    alloc: Global,
-    hasher: H,
-    marks: &[Mark],
-) -> Result<Vec<[u8; 32]>, Memory>
+pub fn leaf_hashes<H: Hash32>(alloc: Global, hasher: H, marks: &[Mark]) -> Result<Vec<Hash>, Memory>
     requires { All HasValues marks.now }
     ensures { IfOk result (λ hashes. hashes.items ≡ map (leaf_hash (H.digest hasher)) marks.now) }
 {
@@ -114,11 +110,7 @@ pub fn parts_at<'m, 'a>(marks: &'m [Mark<'a>], front: usize) -> (&'m [Mark<'a>],
 
 /// The hashes of the leaves, in their order. The leaf of an end is longer than that of its version's start, and only
 /// leaves of one number of the hash's blocks gain by being hashed together: so starts and ends are hashed apart.
-fn hashes_apart<H: Hash32>(
-    alloc: Global,
-    hasher: H,
-    marks: &[Mark],
-) -> Result<Vec<[u8; 32]>, Memory>
+fn hashes_apart<H: Hash32>(alloc: Global, hasher: H, marks: &[Mark]) -> Result<Vec<Hash>, Memory>
     requires { All HasValues marks.now }
     ensures { IfOk result (λ hashes. hashes.items ≡ map (leaf_hash (H.digest hasher)) marks.now) }
 {
@@ -155,12 +147,7 @@ fn ends_of<'a>(alloc: Global, marks: &[Mark<'a>]) -> Result<Vec<Mark<'a>>, Memor
 
 /// For each start the next of the first hashes, and for each end the next of the second.
 #[tactic(auto, using(crate::proofs::Woven::end_next, crate::proofs::Woven::start_next))]
-fn woven(
-    alloc: Global,
-    marks: &[Mark],
-    starts: &[[u8; 32]],
-    ends: &[[u8; 32]],
-) -> Result<Vec<[u8; 32]>, Memory>
+fn woven(alloc: Global, marks: &[Mark], starts: &[Hash], ends: &[Hash]) -> Result<Vec<Hash>, Memory>
     ensures { IfOk result (λ hashes. hashes.items ≡ woven marks.now starts.now ends.now) }
 {
     let mut hashes = Vec::with_capacity(alloc, marks.len())?;
@@ -177,10 +164,7 @@ fn woven(
 }
 
 /// Appends the first of these hashes, if there is one, and gives those behind it.
-fn put_first<'h>(
-    given: &'h [[u8; 32]],
-    hashes: &mut Vec<[u8; 32]>,
-) -> Result<&'h [[u8; 32]], Memory>
+fn put_first<'h>(given: &'h [Hash], hashes: &mut Vec<Hash>) -> Result<&'h [Hash], Memory>
     ensures first { OnOk result (hashes.new.items ≡ hashes.old.items ++ take 1 given.now) }
     ensures behind { IfOk result (λ behind. behind.now ≡ drop 1 given.now) }
 {
@@ -195,11 +179,7 @@ fn put_first<'h>(
 
 /// The hashes of the leaves, in their order. As many as can be are computed four at a time, whatever their
 /// transactions and tables.
-fn hashes_in_fours<H: Hash32>(
-    alloc: Global,
-    hasher: H,
-    marks: &[Mark],
-) -> Result<Vec<[u8; 32]>, Memory>
+fn hashes_in_fours<H: Hash32>(alloc: Global, hasher: H, marks: &[Mark]) -> Result<Vec<Hash>, Memory>
     requires { All HasValues marks.now }
     ensures { IfOk result (λ hashes. hashes.items ≡ map (leaf_hash (H.digest hasher)) marks.now) }
 {

@@ -12,7 +12,7 @@ ghost use Rattle.audit_roots.specs.Marks.{event_of, tx_of, number_of, leaf_cmp, 
 ghost use Rattle.audit_roots.specs.ImageTable.{table_of};
 
 use crate::shown::ImageTable;
-use base_types::{Memory, TableId, TxId};
+use base_types::{Hash, Memory, TableId, TxId};
 use format_event::{EventRef, write_leaf};
 use sql_types::{EventId, Version};
 use std::alloc::Global;
@@ -131,9 +131,9 @@ fn compare_marks(a: &Mark, b: &Mark) -> Ordering
 /// Those of a transaction, which stand together, and the hashes of their leaves. Takes two ordered searches.
 pub fn run_of<'m, 'h, 'a>(
     marks: &'m [Mark<'a>],
-    hashes: &'h [[u8; 32]],
+    hashes: &'h [Hash],
     tx: TxId,
-) -> (&'m [Mark<'a>], &'h [[u8; 32]])
+) -> (&'m [Mark<'a>], &'h [Hash])
     requires rise { IsNonDecreasingBy tx_of marks.now }
     requires alike { length hashes.now ≡ length marks.now }
     ensures own { result.0.now ≡ filter (λ m. tx_of m == tx) marks.now }
@@ -148,7 +148,7 @@ pub fn run_of<'m, 'h, 'a>(
 }
 
 /// So many of the hashes, from the one at place `from` on.
-pub fn hashes_at(hashes: &[[u8; 32]], from: usize, count: usize) -> &[[u8; 32]]
+pub fn hashes_at(hashes: &[Hash], from: usize, count: usize) -> &[Hash]
     requires { from + count ≤ length hashes.now }
     ensures { result.now ≡ take count (drop from hashes.now) }
 {

@@ -17,7 +17,7 @@ use crate::marks::{Mark, first_group, hashes_at, run_of, sorted_marks};
 use crate::numbers::are_numbered;
 use crate::shown::ImageTable;
 use base_merkle::Hash32;
-use base_types::{Memory, TableId};
+use base_types::{Hash, Memory, TableId};
 use format_image::Image;
 use format_roots::root_over_hashes;
 use spec_verify::Place;
@@ -25,7 +25,7 @@ use sql_types::TxEntry;
 use std::alloc::Global;
 
 /// A table, and a root in it.
-pub type TableRoot = (TableId, [u8; 32]);
+pub type TableRoot = (TableId, Hash);
 
 /// The first entry whose events aren't numbered without a gap, or that has other roots than theirs; none where all
 /// entries have what they should. The starts and ends of all versions are sorted once, and each leaf is hashed once,
@@ -50,7 +50,7 @@ fn first_fault<H: Hash32>(
     hasher: H,
     entries: &[TxEntry],
     marks: &[Mark],
-    hashes: &[[u8; 32]],
+    hashes: &[Hash],
 ) -> Result<Option<Place>, Memory>
     requires rise { IsNonDecreasingBy tx_of marks.now }
     requires hashes { hashes.now ≡ map (leaf_hash (H.digest hasher)) marks.now }
@@ -86,7 +86,7 @@ fn entry_fault<H: Hash32>(
     hasher: H,
     entry: &TxEntry,
     marks: &[Mark],
-    hashes: &[[u8; 32]],
+    hashes: &[Hash],
     work: &mut ScratchSpace,
 ) -> Result<Option<Place>, Memory>
     requires rise { IsNonDecreasingBy tx_of marks.now }
@@ -125,7 +125,7 @@ pub fn put_roots<H: Hash32>(
     alloc: Global,
     hasher: H,
     marks: &[Mark],
-    hashes: &[[u8; 32]],
+    hashes: &[Hash],
     roots: &mut Vec<TableRoot>,
 ) -> Result<(), Memory>
     requires { hashes.now ≡ map (leaf_hash (H.digest hasher)) marks.now }
@@ -146,9 +146,9 @@ pub fn put_roots<H: Hash32>(
 /// their hashes.
 fn group_at<'m, 'h, 'a>(
     marks: &'m [Mark<'a>],
-    hashes: &'h [[u8; 32]],
+    hashes: &'h [Hash],
     at: usize,
-) -> (TableId, &'m [Mark<'a>], &'h [[u8; 32]])
+) -> (TableId, &'m [Mark<'a>], &'h [Hash])
     requires at { at < length marks.now }
     requires alike { length hashes.now ≡ length marks.now }
     ensures group { (h : List ℕ → List ℕ) → roots_in h (map event_of (drop at marks.now))
@@ -170,8 +170,8 @@ fn group_root<H: Hash32>(
     alloc: Global,
     hasher: H,
     marks: &[Mark],
-    hashes: &[[u8; 32]],
-) -> Result<[u8; 32], Memory>
+    hashes: &[Hash],
+) -> Result<Hash, Memory>
     requires { hashes.now ≡ map (leaf_hash (H.digest hasher)) marks.now }
     ensures { IfOk result (λ root. root
         ≡ tree_hash (H.digest hasher) (map event_bytes (map event_of marks.now))) }
@@ -216,7 +216,7 @@ pub fn lesser(best: Option<TableId>, table: TableId) -> Option<TableId>
     }
 }
 
-pub fn same_root(a: Option<[u8; 32]>, b: Option<[u8; 32]>) -> bool
+pub fn same_root(a: Option<Hash>, b: Option<Hash>) -> bool
     ensures { result ≡ spec.same_root a b }
 {
     match (a, b) {
@@ -226,7 +226,7 @@ pub fn same_root(a: Option<[u8; 32]>, b: Option<[u8; 32]>) -> bool
     }
 }
 
-pub fn root_at(roots: &[TableRoot], table: TableId) -> Option<[u8; 32]>
+pub fn root_at(roots: &[TableRoot], table: TableId) -> Option<Hash>
     ensures { result ≡ spec.root_at roots.now table }
 {
     for root in roots {

@@ -15,7 +15,7 @@ use crate::marks::{Mark, sorted_marks};
 use crate::merged::first_root;
 use crate::shown::{ImageTable, shown_tables};
 use base_merkle::Hash32;
-use base_types::{Memory, TableId};
+use base_types::{Hash, Memory, TableId};
 use format_image::Image;
 use sql_system::first_tables;
 use sql_types::TxEntry;
@@ -76,7 +76,7 @@ fn leaf_hashes_by<H: Hash32, R: Threads + Sync>(
     hasher: H,
     marks: &[Mark],
     workers: u32,
-) -> Result<Vec<[u8; 32]>, Memory>
+) -> Result<Vec<Hash>, Memory>
     requires { All HasValues marks.now }
     ensures { IfOk result (λ hashes. hashes.items ≡ map (leaf_hash (H.digest hasher)) marks.now) }
 {
@@ -91,12 +91,12 @@ fn leaf_hashes_by<H: Hash32, R: Threads + Sync>(
     let (a, b) = parts_at(marks, front);
     let (first, second) = join(
         rt,
-        move || -> Result<Vec<[u8; 32]>, Memory>
+        move || -> Result<Vec<Hash>, Memory>
             requires sync { IsSync R.row × IsSync H.row × IsSend H.row }
             requires values { All HasValues a.now }
             ensures { IfOk result (λ hashes. hashes.items ≡ map (leaf_hash (H.digest hasher)) a.entry.now) }
         { leaf_hashes_by(rt, alloc, hasher, a, fewer) },
-        move || -> Result<Vec<[u8; 32]>, Memory>
+        move || -> Result<Vec<Hash>, Memory>
             requires sync { IsSync R.row × IsSync H.row × IsSend H.row }
             requires values { All HasValues b.now }
             ensures { IfOk result (λ hashes. hashes.items ≡ map (leaf_hash (H.digest hasher)) b.entry.now) }
@@ -107,7 +107,7 @@ fn leaf_hashes_by<H: Hash32, R: Threads + Sync>(
 }
 
 /// The hashes of two parts, one behind the other.
-fn joined(first: Vec<[u8; 32]>, second: &[[u8; 32]]) -> Result<Vec<[u8; 32]>, Memory>
+fn joined(first: Vec<Hash>, second: &[Hash]) -> Result<Vec<Hash>, Memory>
     ensures { IfOk result (λ hashes. hashes.items ≡ first.items ++ second.now) }
 {
     let mut hashes = first;
@@ -123,7 +123,7 @@ fn wrong_root_by<H: Hash32, R: Threads + Sync>(
     entries: &[TxEntry],
     tables: &[ImageTable],
     marks: &[Mark],
-    hashes: &[[u8; 32]],
+    hashes: &[Hash],
     from: usize,
     count: usize,
     workers: u32,

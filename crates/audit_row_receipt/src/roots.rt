@@ -5,16 +5,16 @@ ghost use Rattle.std.specs.Bool.{Decides};
 ghost use Rattle.spec_verify.specs.Entries.{root_at};
 ghost use Rattle.audit_receipt.specs.Tests.{is_root};
 
-use base_types::TableId;
+use base_types::{Hash, TableId};
 
 /// Whether the entry with these roots has this one in a table.
-pub(crate) fn has_root(roots: &[(TableId, [u8; 32])], table: TableId, root: &[u8; 32]) -> bool
+pub(crate) fn has_root(roots: &[(TableId, Hash)], table: TableId, root: &Hash) -> bool
     ensures { Decides result (root_at roots.now table ≡ Some root.now) }
 {
     is_root_at(roots, table, root)
 }
 
-fn is_root_at(roots: &[(TableId, [u8; 32])], table: TableId, root: &[u8; 32]) -> bool
+fn is_root_at(roots: &[(TableId, Hash)], table: TableId, root: &Hash) -> bool
     ensures { result ≡ is_root root.now (root_at roots.now table) }
 {
     for own in roots {

@@ -9,7 +9,7 @@ ghost use Rattle.audit_verify.specs.BlockParts.{faulty_block};
 
 use crate::merged::first_of_two;
 use base_merkle::Hash32;
-use base_types::Memory;
+use base_types::{Hash, Memory};
 use format_entry::block_hash;
 use format_image::Image;
 use format_roots::entries_root;
@@ -63,7 +63,7 @@ pub fn chain_fault<H: Hash32>(hasher: H, image: &Image) -> Option<Place>
     None
 }
 
-fn no_hash() -> [u8; 32]
+fn no_hash() -> Hash
     ensures { result ≡ no_hash }
 {
     [0; 32]

@@ -8,6 +8,7 @@ ghost use Rattle.base_merkle.specs.Stack.{stack_root};
 use crate::Hash32;
 use crate::node::{Node, leaf_hash, node_hash};
 use arrayvec::ArrayVec;
+use base_types::Hash;
 
 /// A tree over the leaves that were pushed. It has room for 64 nodes, takes no memory, and does not keep the
 /// leaves.
@@ -26,7 +27,7 @@ pub struct FrontierMark {
 }
 
 // The root over the complete trees, joined from the last one on.
-fn root_of<H: Hash32>(hasher: H, nodes: &[Node]) -> [u8; 32]
+fn root_of<H: Hash32>(hasher: H, nodes: &[Node]) -> Hash
     ensures { result ≡ stack_root (H.digest hasher) nodes.now }
 {
     match nodes {
@@ -113,7 +114,7 @@ impl<H: Hash32> Frontier<H> {
     }
 
     /// Adds a leaf behind the others, of which the hash is known: that of a zero byte and the leaf's bytes.
-    pub fn push_leaf_hash(&mut self, hash: [u8; 32])
+    pub fn push_leaf_hash(&mut self, hash: Hash)
         requires { MayAddLeaf H.digest self.old }
         ensures { (h : H) (leaves : List (List ℕ)) (leaf : List ℕ) → Holds H.digest h self.old leaves
             → hash ≡ H.digest h (0 ∷ leaf) → Holds H.digest h self.new (leaves ++ leaf ∷ []) }
@@ -124,7 +125,7 @@ impl<H: Hash32> Frontier<H> {
 
     /// The Merkle tree hash of the leaves (RFC 6962, section 2.1). It costs one hash for each node but one,
     /// so at most one for each binary digit of `count`.
-    pub fn root(&self) -> [u8; 32]
+    pub fn root(&self) -> Hash
         ensures { (h : H) (leaves : List (List ℕ)) → Holds H.digest h self.now leaves
             → result ≡ tree_hash (H.digest h) leaves }
     {

@@ -6,6 +6,7 @@ ghost use Rattle.sha2.proofs.Facts256.{length-sha256};
 ghost use Rattle.base_sha256.specs.Messages.{bytes_of};
 
 use base_sha256::{Message, digest, digest_four};
+use base_types::Hash;
 use std::alloc::{AllocError, Global};
 
 /// A hash function. Nothing but the length of its hashes is known of it, so whatever is proved over this
@@ -16,11 +17,11 @@ pub trait Hash32: Copy + Send + Sync {
 
     /// The hash of two pieces that are taken as one. It costs one hash of their joint length, and copies
     /// neither.
-    fn hash(&self, head: &[u8], rest: &[u8]) -> [u8; 32]
+    fn hash(&self, head: &[u8], rest: &[u8]) -> Hash
         ensures { result ≡ digest self.now (head.now ++ rest.now) };
 
     /// The hashes of four messages, which a hash may compute together.
-    fn hash_four(&self, messages: &[Message; 4]) -> [[u8; 32]; 4]
+    fn hash_four(&self, messages: &[Message; 4]) -> [Hash; 4]
         ensures { result ≡ map (λ m. digest self.now (bytes_of m)) messages.now }
     {
         let [a, b, c, d] = messages;
@@ -45,11 +46,11 @@ impl Hash32 for Sha256Hash {
 
     ghost sized = { λ _ bytes. length-sha256 bytes };
 
-    fn hash(&self, head: &[u8], rest: &[u8]) -> [u8; 32] {
+    fn hash(&self, head: &[u8], rest: &[u8]) -> Hash {
         digest(&Message { head, rest })
     }
 
-    fn hash_four(&self, messages: &[Message; 4]) -> [[u8; 32]; 4] {
+    fn hash_four(&self, messages: &[Message; 4]) -> [Hash; 4] {
         digest_four(messages)
     }
 }
@@ -59,7 +60,7 @@ pub fn hash_all<H: Hash32>(
     alloc: Global,
     hasher: H,
     messages: &[Message],
-) -> Result<Vec<[u8; 32]>, AllocError>
+) -> Result<Vec<Hash>, AllocError>
     ensures { IfOk result (λ hashes. hashes.items ≡ map (λ m. H.digest hasher (bytes_of m)) messages.now) }
 {
     let mut hashes = Vec::with_capacity(alloc, messages.len())?;

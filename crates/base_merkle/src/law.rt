@@ -5,6 +5,7 @@ ghost use Rattle.base_merkle.specs.TreeHash.{tree_hash};
 
 use crate::Hash32;
 use crate::node::leaf_hash;
+use base_types::Hash;
 
 /// RFC 6962, section 2.1, for any hash `h`: of no leaves it is the hash of no bytes; of one leaf that of a
 /// zero byte and the leaf; of more that of a one byte and the tree hashes of the first `k` leaves and of the
@@ -19,7 +20,7 @@ pub fn tree_hash_law()
 {}
 
 /// The root of a tree of one leaf, at the cost of that leaf's hash.
-pub fn root_of_leaf<H: Hash32>(hasher: H, leaf: &[u8]) -> [u8; 32]
+pub fn root_of_leaf<H: Hash32>(hasher: H, leaf: &[u8]) -> Hash
     ensures { result ≡ tree_hash (H.digest hasher) (leaf.now ∷ []) }
 {
     leaf_hash(hasher, leaf)

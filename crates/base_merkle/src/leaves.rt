@@ -7,10 +7,11 @@ use crate::Hash32;
 use crate::level::root_of_hashes;
 use crate::node::leaf_hash;
 use base_sha256::Message;
+use base_types::Hash;
 use std::alloc::{AllocError, Global};
 
 // The hashes of four leaves.
-fn four_leaf_hashes<H: Hash32>(hasher: H, a: &[u8], b: &[u8], c: &[u8], d: &[u8]) -> [[u8; 32]; 4]
+fn four_leaf_hashes<H: Hash32>(hasher: H, a: &[u8], b: &[u8], c: &[u8], d: &[u8]) -> [Hash; 4]
     ensures { result ≡ H.digest hasher (0 ∷ a.now) ∷ H.digest hasher (0 ∷ b.now)
         ∷ H.digest hasher (0 ∷ c.now) ∷ H.digest hasher (0 ∷ d.now) ∷ [] }
 {
@@ -39,7 +40,7 @@ pub fn leaf_hashes<H: Hash32>(
     alloc: Global,
     hasher: H,
     leaves: &[&[u8]],
-) -> Result<Vec<[u8; 32]>, AllocError>
+) -> Result<Vec<Hash>, AllocError>
     ensures { IfOk result (λ hashes. hashes.items ≡ map (λ leaf. H.digest hasher (0 ∷ leaf.now)) leaves.now) }
 {
     let mut hashes = Vec::with_capacity(alloc, leaves.len())?;
@@ -66,7 +67,7 @@ pub fn root_of_leaves<H: Hash32>(
     alloc: Global,
     hasher: H,
     leaves: &[&[u8]],
-) -> Result<[u8; 32], AllocError>
+) -> Result<Hash, AllocError>
     ensures { IfOk result (λ root. root ≡ tree_hash (H.digest hasher) (map (λ leaf. leaf.now) leaves.now)) }
 {
     let hashes = leaf_hashes(alloc, hasher, leaves)?;

@@ -7,10 +7,11 @@ ghost use Rattle.base_merkle.specs.TreeHash.{tree_hash};
 use crate::Hash32;
 use crate::node::{head_of, node_hash};
 use base_sha256::Message;
+use base_types::Hash;
 use std::alloc::{AllocError, Global};
 
 // The four nodes above eight, of which the heads have the left ones.
-fn join_four<H: Hash32>(hasher: H, heads: &[[u8; 33]; 4], nodes: &[[u8; 32]]) -> [[u8; 32]; 4]
+fn join_four<H: Hash32>(hasher: H, heads: &[[u8; 33]; 4], nodes: &[Hash]) -> [Hash; 4]
     requires { length nodes.now ≡ 8 }
     ensures { result ≡ H.digest hasher (slice_index_or heads.now 0 [] ++ slice_index_or nodes.now 1 [])
         ∷ H.digest hasher (slice_index_or heads.now 1 [] ++ slice_index_or nodes.now 3 [])
@@ -38,7 +39,7 @@ fn join_four<H: Hash32>(hasher: H, heads: &[[u8; 33]; 4], nodes: &[[u8; 32]]) ->
 }
 
 // The four nodes above eight.
-fn above_eight<H: Hash32>(hasher: H, nodes: &[[u8; 32]]) -> [[u8; 32]; 4]
+fn above_eight<H: Hash32>(hasher: H, nodes: &[Hash]) -> [Hash; 4]
     requires { length nodes.now ≡ 8 }
     ensures { result ≡ level_above (H.digest hasher) nodes.now }
 {
@@ -53,8 +54,8 @@ fn above_eight<H: Hash32>(hasher: H, nodes: &[[u8; 32]]) -> [[u8; 32]; 4]
 pub fn level_above<H: Hash32>(
     alloc: Global,
     hasher: H,
-    nodes: &[[u8; 32]],
-) -> Result<Vec<[u8; 32]>, AllocError>
+    nodes: &[Hash],
+) -> Result<Vec<Hash>, AllocError>
     ensures { IfOk result (λ above. above.items ≡ level_above (H.digest hasher) nodes.now) }
 {
     let mut above = Vec::with_capacity(alloc, nodes.len().div_ceil(2))?;
@@ -77,8 +78,8 @@ pub fn level_above<H: Hash32>(
 pub fn root_of_hashes<H: Hash32>(
     alloc: Global,
     hasher: H,
-    hashes: Vec<[u8; 32]>,
-) -> Result<[u8; 32], AllocError>
+    hashes: Vec<Hash>,
+) -> Result<Hash, AllocError>
     ensures { IfOk result (λ root. (leaves : List (List ℕ))
         → hashes.items ≡ map (λ leaf. H.digest hasher (0 ∷ leaf)) leaves
         → root ≡ tree_hash (H.digest hasher) leaves) }

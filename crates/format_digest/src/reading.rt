@@ -5,7 +5,7 @@ ghost use Rattle.serde_json.specs.View.{view, items_view};
 ghost use Rattle.format_digest.specs.Reading as spec;
 
 use crate::{DigestErr, HeldDigest};
-use base_types::{Items, Memory, Name};
+use base_types::{Hash, Items, Memory, Name};
 use hex::FromHex;
 use serde_json::Value;
 use std::alloc::Global;
@@ -79,9 +79,9 @@ fn held_of(alloc: Global, value: &Value) -> Result<Option<HeldDigest>, Memory>
 }
 
 #[tactic(auto, unfolding(crate::specs::Reading::hash_of))]
-fn hash_of(text: &str) -> Option<[u8; 32]>
+fn hash_of(text: &str) -> Option<Hash>
     ensures { result ≡ spec.hash_of text.now }
 {
     let digits = text.strip_prefix("0x")?;
-    <[u8; 32] as FromHex>::from_hex(digits).ok()
+    <Hash as FromHex>::from_hex(digits).ok()
 }

@@ -9,7 +9,7 @@ ghost use Rattle.format_digest.specs.Writing as spec;
 
 use crate::Digest;
 use crate::moment::moment_text;
-use base_types::Memory;
+use base_types::{Hash, Memory};
 use serde_json::{Value, json};
 use std::alloc::{AllocError, Global};
 
@@ -74,7 +74,7 @@ fn members(
     })
 }
 
-fn hash_text(alloc: Global, hash: [u8; 32]) -> Result<String, Memory>
+fn hash_text(alloc: Global, hash: Hash) -> Result<String, Memory>
     ensures fits { IfOk result (λ s. (length hash ≡ 32) × IsBytes hash) }
     ensures text { IfOk result (λ s. string_bytes s ≡ codes "0x" ++ encode_upper hash) }
 {

@@ -10,7 +10,7 @@ ghost use Rattle.format_entry.specs.EntryReading.{entry_at, root_at, roots_at};
 use base_fields::{
     ReadError, hash_at, literal, moment_at, session_at, tx_id_at, u8_at, u32_at, u64_at, whole,
 };
-use base_types::{Items, Memory, TableId};
+use base_types::{Hash, Items, Memory, TableId};
 use sql_types::TxEntry;
 use std::alloc::Global;
 
@@ -49,10 +49,7 @@ fn entry_at(alloc: Global, bytes: &[u8]) -> Result<(TxEntry, &[u8]), ReadError>
 
 /// The roots at the front of the bytes, behind their count, and what follows them.
 #[tactic(auto, unfolding(crate::specs::EntryReading::roots_at))]
-pub fn roots_at(
-    alloc: Global,
-    bytes: &[u8],
-) -> Result<(Items<(TableId, [u8; 32])>, &[u8]), ReadError>
+pub fn roots_at(alloc: Global, bytes: &[u8]) -> Result<(Items<(TableId, Hash)>, &[u8]), ReadError>
     ensures { ReadsAs (λ x. (x.0, x.1.now)) result (roots_at bytes.now) }
 {
     let (count, rest) = u8_at(bytes)?;
@@ -67,7 +64,7 @@ fn some_roots(
     alloc: Global,
     count: u8,
     bytes: &[u8],
-) -> Result<(Items<(TableId, [u8; 32])>, &[u8]), ReadError>
+) -> Result<(Items<(TableId, Hash)>, &[u8]), ReadError>
     ensures { ReadsAs (λ x. (x.0, x.1.now)) result (times root_at count bytes.now) }
 {
     let mut roots = Items::new(alloc);
@@ -81,7 +78,7 @@ fn some_roots(
 }
 
 #[tactic(auto, unfolding(crate::specs::EntryReading::root_at))]
-fn root_at(bytes: &[u8]) -> Result<((TableId, [u8; 32]), &[u8]), ReadError>
+fn root_at(bytes: &[u8]) -> Result<((TableId, Hash), &[u8]), ReadError>
     ensures { Finds (λ x. (x.0, x.1.now)) result (root_at bytes.now) }
 {
     let (table, rest) = u32_at(bytes)?;
@@ -90,7 +87,7 @@ fn root_at(bytes: &[u8]) -> Result<((TableId, [u8; 32]), &[u8]), ReadError>
 }
 
 // Whether there is a root, and the tables rise strictly.
-fn tables_rise(roots: &[(TableId, [u8; 32])]) -> bool
+fn tables_rise(roots: &[(TableId, Hash)]) -> bool
     ensures { result ≡ tables_rise roots.now }
 {
     match roots {
@@ -99,7 +96,7 @@ fn tables_rise(roots: &[(TableId, [u8; 32])]) -> bool
     }
 }
 
-fn rise_above(before: TableId, roots: &[(TableId, [u8; 32])]) -> bool
+fn rise_above(before: TableId, roots: &[(TableId, Hash)]) -> bool
     ensures { result ≡ rise_above before roots.now }
 {
     let mut last = before;

@@ -8,6 +8,7 @@ ghost use Rattle.format_entry.specs.Record.{IsRecord, record_bytes, record_at};
 
 use base_fields::Fields;
 use base_merkle::Hash32;
+use base_types::Hash;
 use sql_types::BlockRecord;
 
 /// The bytes of a record: the block, the root of its entries, how many they are, and the hash of the record
@@ -23,7 +24,7 @@ pub fn record_bytes(block: &BlockRecord) -> [u8; 80]
 
 // A number and a hash: a record is two of these.
 #[tactic(auto, unfolding(base_fields::specs::Fields::u64_field))]
-fn half_bytes(number: u64, hash: &[u8; 32]) -> [u8; 40]
+fn half_bytes(number: u64, hash: &Hash) -> [u8; 40]
     ensures { result ≡ u64_field number ++ hash_field hash.now }
 {
     let mut bytes = [0; 40];
@@ -67,7 +68,7 @@ fn record_at(bytes: &[u8]) -> Option<BlockRecord>
 }
 
 /// The hash of a block is that of its record.
-pub fn block_hash<H: Hash32>(hasher: H, block: &BlockRecord) -> [u8; 32]
+pub fn block_hash<H: Hash32>(hasher: H, block: &BlockRecord) -> Hash
     ensures { result ≡ H.digest hasher (record_bytes block.now) }
 {
     hasher.hash(&record_bytes(block), &[])

@@ -4,7 +4,7 @@ ghost use Rattle.std.specs.Prelude.{◌≡◌, ◌<◌, ◌^◌, ◌++◌, take,
 ghost use Rattle.format_entry.specs.Entry.{IsEntry, entry_bytes, head_bytes, roots_bytes, root_bytes};
 
 use base_fields::{put_hash, put_short, put_u8, put_u32, put_u64};
-use base_types::{Memory, TableId};
+use base_types::{Hash, Memory, TableId};
 use sql_types::TxEntry;
 
 /// Appends the bytes of an entry that has a spelling: its transaction is from 1 to 2^63 - 1, its place in the
@@ -49,7 +49,7 @@ fn put_head(entry: &TxEntry, out: &mut Vec<u8>) -> Result<(), Memory>
 
 /// Appends the number of the format, how many roots there are, and these. There are to be at most 255. After
 /// want of memory what stood first still does.
-pub fn put_roots(roots: &[(TableId, [u8; 32])], out: &mut Vec<u8>) -> Result<(), Memory>
+pub fn put_roots(roots: &[(TableId, Hash)], out: &mut Vec<u8>) -> Result<(), Memory>
     requires { length roots.now < 256 }
     ensures ok { OnOk result (out.new.items ≡ out.old.items ++ roots_bytes roots.now) }
     ensures grows { take (length out.old.items) out.new.items ≡ out.old.items }
@@ -59,7 +59,7 @@ pub fn put_roots(roots: &[(TableId, [u8; 32])], out: &mut Vec<u8>) -> Result<(),
     put_each(roots, out)
 }
 
-fn put_each(roots: &[(TableId, [u8; 32])], out: &mut Vec<u8>) -> Result<(), Memory>
+fn put_each(roots: &[(TableId, Hash)], out: &mut Vec<u8>) -> Result<(), Memory>
     ensures ok { OnOk result (out.new.items ≡ out.old.items ++ flat_map root_bytes roots.now) }
     ensures grows { take (length out.old.items) out.new.items ≡ out.old.items }
 {
@@ -69,7 +69,7 @@ fn put_each(roots: &[(TableId, [u8; 32])], out: &mut Vec<u8>) -> Result<(), Memo
     Ok(())
 }
 
-fn put_root(root: &(TableId, [u8; 32]), out: &mut Vec<u8>) -> Result<(), Memory>
+fn put_root(root: &(TableId, Hash), out: &mut Vec<u8>) -> Result<(), Memory>
     ensures ok { OnOk result (out.new.items ≡ out.old.items ++ root_bytes root.now) }
     ensures grows { take (length out.old.items) out.new.items ≡ out.old.items }
 {

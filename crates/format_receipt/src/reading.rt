@@ -12,7 +12,7 @@ ghost use Rattle.format_receipt.specs.ReceiptReading.{entry_behind, path_at, rec
 
 use crate::receipt::Receipt;
 use base_fields::{ReadError, database_at, hash_at, literal, long_at, u8_at, u64_at, whole};
-use base_types::{Items, Memory};
+use base_types::{Hash, Items, Memory};
 use format_entry::{BlockRecord, TxEntry, read_entry};
 use std::alloc::Global;
 
@@ -59,7 +59,7 @@ pub fn entry_behind(alloc: Global, bytes: &[u8]) -> Result<(TxEntry, &[u8]), Rea
 
 /// At most 17 hashes of a path, behind their count in a byte.
 #[tactic(auto, unfolding(crate::specs::ReceiptReading::path_at))]
-pub fn path_at(alloc: Global, bytes: &[u8]) -> Result<(Items<[u8; 32]>, &[u8]), ReadError>
+pub fn path_at(alloc: Global, bytes: &[u8]) -> Result<(Items<Hash>, &[u8]), ReadError>
     ensures { ReadsAs (λ x. (x.0, x.1.now)) result (path_at bytes.now) }
 {
     let (count, rest) = u8_at(bytes)?;
@@ -70,11 +70,7 @@ pub fn path_at(alloc: Global, bytes: &[u8]) -> Result<(Items<[u8; 32]>, &[u8]), 
     Ok((path, rest))
 }
 
-fn some_hashes(
-    alloc: Global,
-    count: u8,
-    bytes: &[u8],
-) -> Result<(Items<[u8; 32]>, &[u8]), ReadError>
+fn some_hashes(alloc: Global, count: u8, bytes: &[u8]) -> Result<(Items<Hash>, &[u8]), ReadError>
     ensures { ReadsAs (λ x. (x.0, x.1.now)) result (times bytes_of.hash_at count bytes.now) }
 {
     let mut path = Items::new(alloc);

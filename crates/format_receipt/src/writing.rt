@@ -9,7 +9,7 @@ ghost use Rattle.format_receipt.specs.Receipts.{path_bytes, receipt_bytes, recor
 
 use crate::receipt::Receipt;
 use base_fields::{put_hash, put_long, put_short, put_u8, put_u64};
-use base_types::Memory;
+use base_types::{Hash, Memory};
 use format_entry::{BlockRecord, TxEntry, record_bytes, write_entry};
 use std::alloc::Global;
 
@@ -41,7 +41,7 @@ pub fn put_entry(alloc: Global, entry: &TxEntry, out: &mut Vec<u8>) -> Result<()
 }
 
 /// Adds how many hashes a path has, in a byte, and each of them.
-pub fn put_path(path: &[[u8; 32]], out: &mut Vec<u8>) -> Result<(), Memory>
+pub fn put_path(path: &[Hash], out: &mut Vec<u8>) -> Result<(), Memory>
     requires { length path.now < 256 }
     ensures { OnOk result (out.new.items ≡ out.old.items ++ path_bytes path.now) }
 {
@@ -49,7 +49,7 @@ pub fn put_path(path: &[[u8; 32]], out: &mut Vec<u8>) -> Result<(), Memory>
     put_hashes(path, out)
 }
 
-fn put_hashes(path: &[[u8; 32]], out: &mut Vec<u8>) -> Result<(), Memory>
+fn put_hashes(path: &[Hash], out: &mut Vec<u8>) -> Result<(), Memory>
     ensures { OnOk result (out.new.items ≡ out.old.items ++ flat_map hash_field path.now) }
 {
     for hash in path {

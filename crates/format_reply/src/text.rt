@@ -7,7 +7,7 @@ ghost use Rattle.sql_value.specs.Refusal.{code_of};
 ghost use Rattle.spec_model.specs.Replies as spec;
 
 use crate::rows::rows_with_count;
-use base_types::{Memory, Text};
+use base_types::{Hash, Memory, Text};
 use sql_types::Reply;
 use sql_value::Refusal;
 use std::alloc::Global;
@@ -32,7 +32,7 @@ fn refusal_line(alloc: Global, indent: &str, refusal: Refusal) -> Result<String,
 }
 
 /// The number of a block, and `0x` with the upper-case digits of its hash.
-fn digest_line(alloc: Global, indent: &str, block: u64, hash: [u8; 32]) -> Result<String, Memory>
+fn digest_line(alloc: Global, indent: &str, block: u64, hash: Hash) -> Result<String, Memory>
     ensures { IfOk result (λ text.
         string_bytes text
         ≡ indent.now ++ (codes "digest " ++ decimal block ++ codes " 0x" ++ encode_upper hash) ++ 10 ∷ []) }

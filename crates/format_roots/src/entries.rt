@@ -7,7 +7,7 @@ ghost use Rattle.base_merkle.specs.TreeHash.{tree_hash};
 
 use crate::leaves::four_leaf_hashes;
 use base_merkle::{Hash32, leaf_hash, root_of_hashes};
-use base_types::Memory;
+use base_types::{Hash, Memory};
 use format_entry::{TxEntry, write_entry};
 use std::alloc::Global;
 
@@ -30,7 +30,7 @@ fn spell(entry: &TxEntry, bytes: &mut Vec<u8>) -> Result<(), Memory>
 }
 
 /// The hash of the entry's leaf.
-fn entry_hash<H: Hash32>(h: H, bytes: &mut Vec<u8>, entry: &TxEntry) -> Result<[u8; 32], Memory>
+fn entry_hash<H: Hash32>(h: H, bytes: &mut Vec<u8>, entry: &TxEntry) -> Result<Hash, Memory>
     requires { IsEntry entry.now }
     ensures { IfOk result (λ hash. hash ≡ H.digest h (0 ∷ entry_bytes entry.now)) }
 {
@@ -46,7 +46,7 @@ fn four_entry_hashes<H: Hash32>(
     b: &TxEntry,
     c: &TxEntry,
     d: &TxEntry,
-) -> Result<[[u8; 32]; 4], Memory>
+) -> Result<[Hash; 4], Memory>
     requires first { IsEntry a.now }
     requires second { IsEntry b.now }
     requires third { IsEntry c.now }
@@ -63,11 +63,7 @@ fn four_entry_hashes<H: Hash32>(
 }
 
 /// The hashes of the leaves of the entries, in their order. As many as can be are computed four at a time.
-fn entry_hashes<H: Hash32>(
-    alloc: Global,
-    h: H,
-    entries: &[TxEntry],
-) -> Result<Vec<[u8; 32]>, Memory>
+fn entry_hashes<H: Hash32>(alloc: Global, h: H, entries: &[TxEntry]) -> Result<Vec<Hash>, Memory>
     requires { AllByRecursion IsEntry entries.now }
     ensures { IfOk result (λ hashes. hashes.items ≡ map (λ e. H.digest h (0 ∷ entry_bytes e)) entries.now) }
 {
@@ -102,7 +98,7 @@ fn entry_hashes<H: Hash32>(
 /// The tree hash over the bytes of the entries. It costs the hash of each entry's bytes, and about one of a
 /// node; leaves, and nodes of one level, are hashed four at a time. While it runs it takes 32 bytes for each
 /// entry, and half of that again.
-pub fn entries_root<H: Hash32>(alloc: Global, h: H, entries: &[TxEntry]) -> Result<[u8; 32], Memory>
+pub fn entries_root<H: Hash32>(alloc: Global, h: H, entries: &[TxEntry]) -> Result<Hash, Memory>
     requires { AllByRecursion IsEntry entries.now }
     ensures { IfOk result (λ root. root ≡ tree_hash (H.digest h) (map entry_bytes entries.now)) }
 {

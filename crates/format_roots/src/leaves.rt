@@ -4,10 +4,11 @@ ghost use Rattle.std.specs.Prelude.{◌≡◌, ◌∷◌, [], ℕ, List, IfOk, m
 ghost use Rattle.base_merkle.specs.TreeHash.{tree_hash};
 
 use base_merkle::{Hash32, Message, node_hash, root_of_hashes};
+use base_types::Hash;
 use std::alloc::{AllocError, Global};
 
 /// The hashes of four leaves, computed together.
-pub fn four_leaf_hashes<H: Hash32>(h: H, a: &[u8], b: &[u8], c: &[u8], d: &[u8]) -> [[u8; 32]; 4]
+pub fn four_leaf_hashes<H: Hash32>(h: H, a: &[u8], b: &[u8], c: &[u8], d: &[u8]) -> [Hash; 4]
     ensures { result ≡ H.digest h (0 ∷ a.now) ∷ H.digest h (0 ∷ b.now)
         ∷ H.digest h (0 ∷ c.now) ∷ H.digest h (0 ∷ d.now) ∷ [] }
 {
@@ -33,11 +34,7 @@ pub fn four_leaf_hashes<H: Hash32>(h: H, a: &[u8], b: &[u8], c: &[u8], d: &[u8])
 
 /// The Merkle tree hash of leaves of which these are the hashes (RFC 6962, section 2.1). Of one or two it takes
 /// no memory.
-pub fn root_over_hashes<H: Hash32>(
-    alloc: Global,
-    h: H,
-    hashes: &[[u8; 32]],
-) -> Result<[u8; 32], AllocError>
+pub fn root_over_hashes<H: Hash32>(alloc: Global, h: H, hashes: &[Hash]) -> Result<Hash, AllocError>
     ensures { IfOk result (λ root. (leaves : List (List ℕ))
         → hashes.now ≡ map (λ leaf. H.digest h (0 ∷ leaf)) leaves
         → root ≡ tree_hash (H.digest h) leaves) }
@@ -49,7 +46,7 @@ pub fn root_over_hashes<H: Hash32>(
     }
 }
 
-fn root_of_many<H: Hash32>(alloc: Global, h: H, hashes: &[[u8; 32]]) -> Result<[u8; 32], AllocError>
+fn root_of_many<H: Hash32>(alloc: Global, h: H, hashes: &[Hash]) -> Result<Hash, AllocError>
     ensures { IfOk result (λ root. (leaves : List (List ℕ))
         → hashes.now ≡ map (λ leaf. H.digest h (0 ∷ leaf)) leaves
         → root ≡ tree_hash (H.digest h) leaves) }

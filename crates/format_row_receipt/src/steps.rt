@@ -8,7 +8,7 @@ ghost use Rattle.format_row_receipt.specs.RowReading.{side_at, step_at, steps_at
 
 use audit_paths::Side;
 use base_fields::{ReadError, hash_at, put_hash, put_u8, u8_at};
-use base_types::{Items, Memory};
+use base_types::{Hash, Items, Memory};
 use std::alloc::Global;
 
 /// At most 63 steps, behind their count in a byte.
@@ -16,7 +16,7 @@ use std::alloc::Global;
 pub(crate) fn steps_at(
     alloc: Global,
     bytes: &[u8],
-) -> Result<(Items<(Side, [u8; 32])>, &[u8]), ReadError>
+) -> Result<(Items<(Side, Hash)>, &[u8]), ReadError>
     ensures { ReadsAs (λ x. (x.0, x.1.now)) result (steps_at bytes.now) }
 {
     let (count, rest) = u8_at(bytes)?;
@@ -31,7 +31,7 @@ fn some_steps(
     alloc: Global,
     count: u8,
     bytes: &[u8],
-) -> Result<(Items<(Side, [u8; 32])>, &[u8]), ReadError>
+) -> Result<(Items<(Side, Hash)>, &[u8]), ReadError>
     ensures { ReadsAs (λ x. (x.0, x.1.now)) result (times step_at count bytes.now) }
 {
     let mut steps = Items::new(alloc);
@@ -45,7 +45,7 @@ fn some_steps(
 }
 
 #[tactic(auto, unfolding(crate::specs::RowReading::step_at))]
-fn step_at(bytes: &[u8]) -> Result<((Side, [u8; 32]), &[u8]), ReadError>
+fn step_at(bytes: &[u8]) -> Result<((Side, Hash), &[u8]), ReadError>
     ensures { Finds (λ x. (x.0, x.1.now)) result (step_at bytes.now) }
 {
     let (side, rest) = side_at(bytes)?;
@@ -66,7 +66,7 @@ fn side_at(bytes: &[u8]) -> Result<(Side, &[u8]), ReadError>
 }
 
 /// Adds how many steps there are, and each of them.
-pub(crate) fn put_steps(steps: &[(Side, [u8; 32])], out: &mut Vec<u8>) -> Result<(), Memory>
+pub(crate) fn put_steps(steps: &[(Side, Hash)], out: &mut Vec<u8>) -> Result<(), Memory>
     requires { length steps.now < 256 }
     ensures { OnOk result (out.new.items ≡ out.old.items ++ steps_bytes steps.now) }
 {
@@ -74,7 +74,7 @@ pub(crate) fn put_steps(steps: &[(Side, [u8; 32])], out: &mut Vec<u8>) -> Result
     put_each(steps, out)
 }
 
-fn put_each(steps: &[(Side, [u8; 32])], out: &mut Vec<u8>) -> Result<(), Memory>
+fn put_each(steps: &[(Side, Hash)], out: &mut Vec<u8>) -> Result<(), Memory>
     ensures { OnOk result (out.new.items ≡ out.old.items ++ flat_map step_bytes steps.now) }
 {
     for step in steps {
@@ -83,7 +83,7 @@ fn put_each(steps: &[(Side, [u8; 32])], out: &mut Vec<u8>) -> Result<(), Memory>
     Ok(())
 }
 
-fn put_step(step: &(Side, [u8; 32]), out: &mut Vec<u8>) -> Result<(), Memory>
+fn put_step(step: &(Side, Hash), out: &mut Vec<u8>) -> Result<(), Memory>
     ensures { OnOk result (out.new.items ≡ out.old.items ++ step_bytes step.now) }
 {
     put_u8(out, side_number(step.0))?;

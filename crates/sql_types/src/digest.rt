@@ -1,6 +1,6 @@
 //! Digests, and what an auditor holds of one.
 
-use sql_value::Name;
+use sql_value::{Hash, Name};
 
 /// What the ledger says of its newest block.
 #[derive(Debug, Drop)]
@@ -8,7 +8,7 @@ pub struct Digest {
     pub database: Name,
     pub block: u64,
     /// The hash of the block.
-    pub hash: [u8; 32],
+    pub hash: Hash,
     /// The time of the block's last entry, in ticks of 100 ns since 1970-01-01T00:00:00.
     pub last_commit: u64,
     /// When the digest was made, in the same ticks.
@@ -20,5 +20,5 @@ pub struct Digest {
 pub struct HeldDigest {
     pub database: Name,
     pub block: u64,
-    pub hash: [u8; 32],
+    pub hash: Hash,
 }

@@ -1,6 +1,6 @@
 //! Transaction entries and the records of blocks, which are what the ledger's digests are made of.
 
-use sql_value::{Items, Name, TableId, TxId};
+use sql_value::{Hash, Items, Name, TableId, TxId};
 
 /// What the ledger says of a transaction that was committed.
 #[derive(Debug, Drop)]
@@ -15,7 +15,7 @@ pub struct TxEntry {
     /// The name of the session that committed it.
     pub principal: Name,
     /// By rising table, the root of the tree over the transaction's events in each table where it has some.
-    pub roots: Items<(TableId, [u8; 32])>,
+    pub roots: Items<(TableId, Hash)>,
 }
 
 /// What is hashed of a block.
@@ -24,9 +24,9 @@ pub struct BlockRecord {
     /// The number of the block, from 0.
     pub id: u64,
     /// The root of the tree over the bytes of its entries.
-    pub root: [u8; 32],
+    pub root: Hash,
     /// How many entries it has.
     pub size: u64,
     /// The hash of the record before, 32 zero bytes for block 0.
-    pub previous: [u8; 32],
+    pub previous: Hash,
 }

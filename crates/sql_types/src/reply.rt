@@ -1,7 +1,7 @@
 //! What a statement is answered.
 
 use crate::version::Row;
-use sql_value::{Items, Refusal, TxId};
+use sql_value::{Hash, Items, Refusal, TxId};
 
 /// The reply to a statement.
 #[derive(Debug, Drop)]
@@ -19,7 +19,7 @@ pub enum Reply {
     /// The transaction went back to a savepoint.
     Back,
     /// The digest of a block.
-    Digest { block: u64, hash: [u8; 32] },
+    Digest { block: u64, hash: Hash },
     /// The image of the first so many items of the journal was kept.
     Image(u64),
     /// COMMIT, and ROLLBACK of a whole transaction.

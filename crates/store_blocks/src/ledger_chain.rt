@@ -9,7 +9,7 @@ ghost use Rattle.store_blocks.specs.LedgerChain.{KeepsHash};
 
 use crate::placing::{place_at, place_between};
 use base_merkle::Hash32;
-use base_types::{Items, Memory};
+use base_types::{Hash, Items, Memory};
 use format_entry::block_hash;
 use format_roots::entries_root;
 use sql_types::{BlockRecord, TxEntry};
@@ -28,7 +28,7 @@ pub struct LedgerChain {
     entries: Vec<TxEntry>,
     // How many of them are in blocks.
     closed: usize,
-    hash: [u8; 32],
+    hash: Hash,
 }
 
 impl Model for LedgerChain {
@@ -80,7 +80,7 @@ impl LedgerChain {
     }
 
     /// The hash of the last block, and 32 zero bytes where there is none.
-    pub fn hash(&self) -> [u8; 32]
+    pub fn hash(&self) -> Hash
         ensures { result ≡ self.now.hash }
     {
         self.hash

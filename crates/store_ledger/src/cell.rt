@@ -20,7 +20,7 @@ ghost use Rattle.store_ledger.specs.Issues.{IsOfNewest, IsIssued};
 
 use crate::{CommitErr, DigestErr};
 use base_merkle::Hash32;
-use base_types::{Items, Memory, Name, TableId, TxId};
+use base_types::{Hash, Items, Memory, Name, TableId, TxId};
 use sql_types::{BlockRecord, Digest, JOURNAL_VERSION, Journal, JournalItem, Script, TxEntry};
 use std::alloc::Global;
 use std::marker::Model;
@@ -30,7 +30,7 @@ use store_blocks::LedgerChain;
 #[derive(Clone, Copy, Debug, PartialEq, Eq)]
 pub struct IssuedDigest {
     pub block: u64,
-    pub hash: [u8; 32],
+    pub hash: Hash,
 }
 
 /// The journal of a database with its entries, blocks and digests, and the id that is drawn next.
@@ -189,7 +189,7 @@ impl LedgerCell {
         time: u64,
         explicit: bool,
         script: Script,
-        roots: Items<(TableId, [u8; 32])>,
+        roots: Items<(TableId, Hash)>,
     ) -> Result<u64, CommitErr>
         requires { IsEntry (new_entry id session.now time roots) }
         ensures place { IfOk result (λ place. place ≡ tx_count self.old.cell.items + 1) }

@@ -16,7 +16,7 @@ use crate::roots::{have_no_leaf, roots_of};
 use crate::savepoint::{Savepoint, kept_by};
 use crate::tree::{TableTree, marks_of, open, push_leaf, restore_all};
 use base_merkle::Hash32;
-use base_types::{Items, Memory, Name, TableId, TxId};
+use base_types::{Hash, Items, Memory, Name, TableId, TxId};
 use sql_value::Refusal;
 use std::alloc::Global;
 
@@ -145,7 +145,7 @@ impl<H: Hash32> TxCtx<H> {
     }
 
     /// The root of each tree that has a leaf, by rising table.
-    pub fn roots(&self, alloc: Global) -> Result<Items<(TableId, [u8; 32])>, Memory>
+    pub fn roots(&self, alloc: Global) -> Result<Items<(TableId, Hash)>, Memory>
         ensures { IfOk result (λ roots. (h : H) (o : OpenTransaction) → Represents H.digest h self.now o
             → Differ (map (λ t. t.table) o.trees) → roots ≡ roots_of_trees (H.digest h) o.trees) }
     {

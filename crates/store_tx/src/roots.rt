@@ -12,17 +12,17 @@ ghost use Rattle.store_tx.specs.Trees.{TreesHold, tables_of};
 
 use crate::tree::TableTree;
 use base_merkle::Hash32;
-use base_types::{Items, Memory, TableId};
+use base_types::{Hash, Items, Memory, TableId};
 use std::alloc::Global;
 
-fn first_behind(roots: &[(TableId, [u8; 32])], table: TableId) -> Option<usize>
+fn first_behind(roots: &[(TableId, Hash)], table: TableId) -> Option<usize>
     ensures { result ≡ position (λ r. nat_le table r.0) roots.now }
 {
     roots.iter().position(|root| table <= root.0)
 }
 
 // Where the root of a table belongs. A transaction touches few tables, so the search is one by one.
-fn place_of(roots: &[(TableId, [u8; 32])], table: TableId) -> usize
+fn place_of(roots: &[(TableId, Hash)], table: TableId) -> usize
     ensures place { result ≡ position_or_len (λ r. nat_le table r.0) roots.now }
     ensures within { result ≤ length roots.now }
 {
@@ -30,10 +30,7 @@ fn place_of(roots: &[(TableId, [u8; 32])], table: TableId) -> usize
 }
 
 // Puts a root before those of greater tables.
-fn insert_root(
-    roots: &mut Vec<(TableId, [u8; 32])>,
-    root: (TableId, [u8; 32]),
-) -> Result<(), Memory>
+fn insert_root(roots: &mut Vec<(TableId, Hash)>, root: (TableId, Hash)) -> Result<(), Memory>
     ensures { OnOk result (roots.new.items ≡ inserted by_root root roots.old.items) }
 {
     let place = place_of(roots, root.0);
@@ -42,10 +39,7 @@ fn insert_root(
 }
 
 // Adds the root of a tree, where it has a leaf.
-fn add_root<H: Hash32>(
-    tree: &TableTree<H>,
-    roots: &mut Vec<(TableId, [u8; 32])>,
-) -> Result<(), Memory>
+fn add_root<H: Hash32>(tree: &TableTree<H>, roots: &mut Vec<(TableId, Hash)>) -> Result<(), Memory>
     ensures { OnOk result ((h : H) (leaves : List (List ℕ)) → Holds H.digest h tree.now.frontier leaves
         → roots.new.items ≡ with_root (H.digest h) tree.now.table leaves roots.old.items) }
 {
@@ -73,7 +67,7 @@ pub fn have_no_leaf<H: Hash32>(trees: &[TableTree<H>]) -> bool
 pub fn roots_of<H: Hash32>(
     alloc: Global,
     trees: &[TableTree<H>],
-) -> Result<Items<(TableId, [u8; 32])>, Memory>
+) -> Result<Items<(TableId, Hash)>, Memory>
     ensures { IfOk result (λ roots. (h : H) (model : List Tree) → Differ (tables_of trees.now)
         → Differ (map (λ t. t.table) model) → TreesHold H.digest h trees.now model
         → roots ≡ roots_of_trees (H.digest h) model) }

@@ -2,7 +2,7 @@
 ghost use Rattle.std.specs.Prelude.{◌≡◌, ◌<◌, ◌+◌, ℕ, List, length, replicate, refl};
 ghost use Rattle.base_merkle.specs.Holds.{Holds};
 
-use base_merkle::{Frontier, Hash32, Sha256Hash, root_of_leaf};
+use base_merkle::{Frontier, Hash, Hash32, Sha256Hash, root_of_leaf};
 
 // The hash that is the same for all bytes.
 #[derive(Clone, Copy, Debug)]
@@ -13,7 +13,7 @@ impl Hash32 for WeakHash {
 
     ghost sized = { λ _ bytes. refl };
 
-    fn hash(&self, _head: &[u8], _rest: &[u8]) -> [u8; 32] {
+    fn hash(&self, _head: &[u8], _rest: &[u8]) -> Hash {
         [0; 32]
     }
 }

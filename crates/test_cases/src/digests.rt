@@ -3,7 +3,7 @@
 use crate::fault::Fault;
 use crate::page::Page;
 use crate::texts::{first_word, hash_of, number};
-use base_types::{MAX_TICKS, Name};
+use base_types::{Hash, MAX_TICKS, Name};
 use format_digest::{Digest, DigestErr, HeldDigest, read_digests, write_digests};
 use std::alloc::Global;
 
@@ -43,7 +43,7 @@ fn put_file(
     alloc: Global,
     database: &str,
     block: u64,
-    hash: [u8; 32],
+    hash: Hash,
     times: (u64, u64),
     page: &mut Page,
 ) -> Result<(), Fault> {

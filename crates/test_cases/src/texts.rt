@@ -1,6 +1,7 @@
 //! Words, numbers and bytes of a case.
 
 use crate::fault::Fault;
+use base_types::Hash;
 use hex::FromHexError;
 use std::alloc::Global;
 
@@ -51,7 +52,7 @@ pub fn hex_bytes(alloc: Global, words: &str) -> Result<Vec<u8>, Fault> {
 }
 
 /// The hash that a word of 64 hexadecimal digits is.
-pub fn hash_of(word: &str) -> Result<[u8; 32], Fault> {
+pub fn hash_of(word: &str) -> Result<Hash, Fault> {
     let mut hash = [0; 32];
     match hex::decode_to_slice(word, &mut hash) {
         Ok(()) => Ok(hash),

@@ -7,6 +7,7 @@ use crate::fault::Fault;
 use crate::page::Page;
 use crate::texts::{hex_bytes, split_at_bar};
 use base_merkle::{Frontier, Hash32, Sha256Hash};
+use base_types::Hash;
 use std::alloc::Global;
 
 /// The most leaves of a case.
@@ -50,7 +51,7 @@ fn push_all<H: Hash32>(tree: &mut Frontier<H>, leaves: &[Vec<u8>])
 
 /// The root of the first leaves, that with the second behind them, and that with the third in the place of
 /// the second.
-fn roots(first: &[Vec<u8>], second: &[Vec<u8>], third: &[Vec<u8>]) -> ([u8; 32], [u8; 32], [u8; 32])
+fn roots(first: &[Vec<u8>], second: &[Vec<u8>], third: &[Vec<u8>]) -> (Hash, Hash, Hash)
     requires first { length first.now ≤ 1000 }
     requires second { length second.now ≤ 1000 }
     requires third { length third.now ≤ 1000 }
@@ -83,7 +84,7 @@ pub fn tree(alloc: Global, words: &str, page: &mut Page) -> Result<(), Fault> {
     Ok(())
 }
 
-fn put_roots(roots: &([u8; 32], [u8; 32], [u8; 32]), page: &mut Page) {
+fn put_roots(roots: &(Hash, Hash, Hash), page: &mut Page) {
     page.put_digits(&roots.0);
     page.put("; ");
     page.put_digits(&roots.1);

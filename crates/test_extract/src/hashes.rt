@@ -3,6 +3,7 @@
 ghost use Rattle.test_extract.specs.Hashes.{digest_of, digest_sized};
 
 use base_merkle::{Hash32, Sha256Hash};
+use base_types::Hash;
 
 /// A hash of 32 bytes. It is one type, so that what goes over hashes is compiled once.
 #[derive(Clone, Copy)]
@@ -32,7 +33,7 @@ impl Hash32 for NamedHash {
 
     ghost sized = { λ hash bytes. digest_sized hash bytes };
 
-    fn hash(&self, head: &[u8], rest: &[u8]) -> [u8; 32] {
+    fn hash(&self, head: &[u8], rest: &[u8]) -> Hash {
         match self {
             NamedHash::Zeros => [0; 32],
             NamedHash::Length => {

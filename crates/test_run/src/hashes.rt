@@ -3,6 +3,7 @@
 ghost use Rattle.std.specs.Prelude.{◌≤◌};
 
 use base_merkle::{Hash32, Sha256Hash};
+use base_types::Hash;
 use std::sync::Wait;
 use std::sync::atomic::AtomicU64;
 use std::sync::atomic::Ordering::SeqCst;
@@ -24,7 +25,7 @@ impl<'a> Hash32 for CountingHash<'a> {
 
     ghost sized = { λ _ bytes. length-sha256 bytes };
 
-    fn hash(&self, head: &[u8], rest: &[u8]) -> [u8; 32] {
+    fn hash(&self, head: &[u8], rest: &[u8]) -> Hash {
         // A byte and the length in eight stand behind the message.
         let bytes = head.len().saturating_add(rest.len()).saturating_add(9);
         self.count.fetch_add(bytes.div_ceil(64) as u64, SeqCst);
