@@ -4,3 +4,4 @@
 mod answering;
 
 pub use answering::{Answers, AnswersErr, accepted, answer_texts};
+pub use audit_verify::verify;

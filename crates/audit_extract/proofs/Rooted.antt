@@ -17,7 +17,7 @@ use Rattle.spec_ledger.specs.Entries.{has_events, root_in, roots_of}
 use Rattle.format_image.specs.DefBytes.{ids_rise}
 use Rattle.format_image.specs.ImageBytes.{IsImage, IsPlaceless}
 use Rattle.format_image.specs.Tables.{tables_in, tables_with}
-use Rattle.law_catalog_rows.specs.Least.{least, least_from}
+use Rattle.spec_verify.specs.Least.{least, least_from}
 use Rattle.spec_verify.specs.First.{unless, first_from}
 use Rattle.spec_verify.specs.Entries.{TableRoot, are_numbered, root_at, same_root, other_roots, root_place, entry_fault, root_fault}
 use Rattle.spec_verify.specs.declared.place.Place.TheVariants as at

@@ -13,7 +13,7 @@ use Rattle.spec_model.specs.Limits.{max_block}
 use Rattle.spec_ledger.specs.Blocks.{no_hash, block_of, record_hash}
 use Rattle.spec_ledger.specs.Entries.{placed}
 use Rattle.spec_ledger.specs.Parts.{by_sizes, IsBlockOf}
-use Rattle.format_image.specs.ImageBytes.{IsImage, IsPlaceless, sizes_of}
+use Rattle.spec_verify.specs.ImageBytes.{IsImage, IsPlaceless, sizes_of}
 use Rattle.spec_verify.specs.Blocks.{chain_fault, block_fault}
 use Rattle.audit_extract.proofs.Heads.{Heads, heads, length_placed}
 use Rattle.audit_extract.proofs.Lists.{all_taken, all_left}

@@ -10,7 +10,7 @@ use Rattle.sql_types.specs.declared.entry.BlockRecord.{BlockRecord}
 use Rattle.sql_types.specs.declared.entry.TxEntry.{TxEntry}
 use Rattle.sql_types.specs.declared.image.Image.{Image}
 use Rattle.spec_ledger.specs.Blocks.{no_hash}
-use Rattle.format_image.specs.ImageBytes.{IsImage}
+use Rattle.spec_verify.specs.ImageBytes.{IsImage}
 use Rattle.spec_verify.specs.Blocks.{digest_fault, chain_fault, block_fault}
 use Rattle.spec_verify.specs.Told.{TellsFirst}
 use Rattle.spec_verify.specs.declared.place.Place.{Place}

@@ -10,7 +10,7 @@ use Rattle.format_entry.specs.Record.{IsRecord}
 use Rattle.sql_types.specs.declared.entry.TxEntry.{TxEntry}
 use Rattle.sql_types.specs.declared.image.Image.{Image}
 use Rattle.spec_ledger.specs.Blocks.{no_hash}
-use Rattle.format_image.specs.ImageBytes.{IsImage}
+use Rattle.spec_verify.specs.ImageBytes.{IsImage}
 use Rattle.base_merkle.specs.TreeHash.{split_of, tree_hash}
 use Rattle.base_merkle.proofs.Split.{split_is}
 use Rattle.spec_verify.specs.Blocks.{chain_fault, block_fault}

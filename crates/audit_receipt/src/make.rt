@@ -5,7 +5,7 @@ ghost use Rattle.std.specs.List.{AllByRecursion};
 ghost use Rattle.std.specs.Option.{option_copied};
 ghost use Rattle.format_entry.specs.Entry.{IsEntry, entry_bytes};
 ghost use Rattle.audit_extract.specs.Parts.{blocks_to};
-ghost use Rattle.format_image.specs.ImageBytes.{IsImage};
+ghost use Rattle.spec_verify.specs.ImageBytes.{IsImage};
 ghost use Rattle.spec_verify.specs.Blocks.{block_fault, chain_fault};
 ghost use Rattle.audit_paths.specs.Path.{audit_path};
 ghost use Rattle.audit_receipt.specs.declared.receipt_err.ReceiptErr.TheVariants as errors;

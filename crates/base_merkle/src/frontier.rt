@@ -8,7 +8,7 @@ ghost use Rattle.base_merkle.specs.Stack.{stack_root};
 use crate::Hash32;
 use crate::node::{Node, leaf_hash, node_hash};
 use arrayvec::ArrayVec;
-use base_types::Hash;
+use base_sha256::Hash;
 
 /// A tree over the leaves that were pushed. It has room for 64 nodes, takes no memory, and does not keep the
 /// leaves.

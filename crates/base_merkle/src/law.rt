@@ -5,7 +5,7 @@ ghost use Rattle.base_merkle.specs.TreeHash.{tree_hash};
 
 use crate::Hash32;
 use crate::node::leaf_hash;
-use base_types::Hash;
+use base_sha256::Hash;
 
 /// RFC 6962, section 2.1, for any hash `h`: of no leaves it is the hash of no bytes; of one leaf that of a
 /// zero byte and the leaf; of more that of a one byte and the tree hashes of the first `k` leaves and of the

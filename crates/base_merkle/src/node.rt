@@ -3,7 +3,7 @@
 ghost use Rattle.std.specs.Prelude.{◌≡◌, ◌++◌, ◌∷◌};
 
 use crate::Hash32;
-use base_types::Hash;
+use base_sha256::Hash;
 
 /// The root of a complete tree, and how many leaves it has, a power of two.
 #[derive(Clone, Copy, Debug, Default)]

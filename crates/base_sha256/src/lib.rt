@@ -7,5 +7,6 @@ mod message;
 mod rounds;
 mod words;
 
+pub use base_types::Hash;
 pub use hashing::{digest, digest_four};
 pub use message::Message;

@@ -78,7 +78,7 @@ fn judge<H: Hash32, R: Threads + Sync>(
     ensures refused { IfErr result (λ status. AreRefused status digests.now) }
 {
     let held = read_held(alloc, digests)?;
-    match audit_verify::verify(rt, alloc, h, image, held.as_slice(), workers) {
+    match audit_answers::verify(rt, alloc, h, image, held.as_slice(), workers) {
         Ok(verdict) => Ok(verdict),
         Err(Memory) => Err(Status::Memory),
     }

@@ -12,13 +12,13 @@ use Rattle.spec_syntax.specs.Text.{statement_of}
 use Rattle.spec_protocol.specs.Seats.{KeptImage}
 use Rattle.law_accepts.specs.Held.{IsHeld}
 use Rattle.law_behind.specs.Past.{Past, since}
-use Rattle.law_kept_images.specs.AcceptedBehind.{IsAcceptedBehind, IsHeldOfPast, IsHeldOfRun}
-use Rattle.law_kept_images.specs.LastImage.{last_image}
-use Rattle.law_sequential.proofs.SessionOutput.{some_meaning}
+use Rattle.server_step.specs.AcceptedBehind.{IsAcceptedBehind, IsHeldOfPast, IsHeldOfRun}
+use Rattle.server_step.specs.LastImage.{last_image}
+use Rattle.server_step.proofs.SessionOutput.{some_meaning}
 use Rattle.audit_replay.specs.GoesOn.{LeadsOn}
 use Rattle.audit_replay.specs.declared.past.Past.{Past as LedTo}
 use Rattle.server_session.specs.KeptCell.{KeptCell}
-use Rattle.server_engine.specs.Starts.{past_in}
+use Rattle.server_step.specs.Starts.{past_in}
 use Rattle.format_lines.specs.Line.{Statement}
 use Rattle.format_lines.specs.Sessions.{sessions_of}
 use Rattle.format_sections.specs.RunSections.{RunSections}

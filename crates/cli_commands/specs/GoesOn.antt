@@ -15,7 +15,7 @@ use Rattle.format_sections.specs.RunSections.{RunSections}
 use Rattle.audit_replay.specs.GoesOn.{LeadsOn}
 use Rattle.audit_replay.specs.declared.past.Past.{Past}
 use Rattle.server_session.specs.KeptCell.{KeptCell}
-use Rattle.server_engine.specs.Starts.{Starts, past_in}
+use Rattle.server_step.specs.Starts.{Starts, past_in}
 use Rattle.server_past.specs.PastCells.{past_seen}
 use Rattle.server_step.specs.Came.{Run}
 use Rattle.server_step.specs.CameBehind.{CameToBehind}

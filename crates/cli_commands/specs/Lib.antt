@@ -14,3 +14,4 @@ pub use Rattle.cli_audit.specs.Transfer
 pub use Rattle.cli_audit.specs.Verify
 pub use Rattle.cli_audit.specs.declared.files.File
 pub use Rattle.cli_audit.specs.declared.status.Status
+pub use Rattle.server_past.specs.PastCells

@@ -6,3 +6,8 @@ pub mod RowBytes
 pub mod Rows
 pub mod Tables
 pub mod Walk
+pub use Rattle.spec_ledger.specs.Blocks
+pub use Rattle.spec_ledger.specs.Entries
+pub use Rattle.spec_ledger.specs.Ledger
+pub use Rattle.format_event.specs.Leaf
+pub use Rattle.format_event.specs.TypedBytes

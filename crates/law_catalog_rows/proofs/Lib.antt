@@ -33,3 +33,4 @@ pub mod RowsAfter
 pub mod Tests
 pub mod Unchanged
 pub mod WrittenAfter
+pub use Rattle.law_frame.proofs.Alls

@@ -5,7 +5,7 @@ ghost use Rattle.sql_types.specs.declared.journal.Journal.{Journal};
 ghost use Rattle.format_lines.specs.Line.{Statement};
 ghost use Rattle.format_sections.specs.RunSections.{RunSections};
 ghost use Rattle.server_result.specs.declared.ran.RunOutcome.{RunOutcome as Output};
-ghost use Rattle.server_past.specs.PastCells.{past_seen};
+ghost use Rattle.cli_commands.specs.PastCells.{past_seen};
 ghost use Rattle.cli_words.specs.Commands.{Settings};
 ghost use Rattle.cli_commands.specs.GoesOn.{LinesComeToBehind, SectionsComeToBehind};
 ghost use Rattle.cli_commands.specs.Run.{LinesComeTo, SectionsComeTo};

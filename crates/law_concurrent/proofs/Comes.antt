@@ -26,7 +26,7 @@ use Rattle.spec_history.proofs.Trace.{each_weaker}
 use Rattle.law_order.specs.OneOrder.{HaveOneOrder, SessionFact}
 use Rattle.format_image.specs.Image.{image_of_cut}
 use Rattle.format_image.specs.ImageBytes.{image_bytes}
-use Rattle.law_image.specs.Room.{FitsImageFormat}
+use Rattle.law_kept_images.specs.Room.{FitsImageFormat}
 use Rattle.spec_ledger.specs.Ledger.{block_hash}
 use Rattle.spec_syntax.specs.Text.{statement_of}
 use Rattle.spec_verify.specs.declared.place.Verdict.TheVariants.{Yes}
@@ -45,8 +45,8 @@ use Rattle.law_moments.specs.AddedInTime.{FitsBlock}
 use Rattle.law_behind.specs.AgreeBehind.{AgreeBehind}
 use Rattle.law_behind.specs.OrderBehind.{AreInOneOrderBehind, HaveOneOrderBehind}
 use Rattle.law_behind.specs.Past.{Past, no_past, since}
-use Rattle.law_sequential.specs.RunStart.{RunStart}
-use Rattle.law_sequential.proofs.SessionOutput.{AgreesWithout}
+use Rattle.law_kept_images.specs.RunStart.{RunStart}
+use Rattle.law_kept_images.proofs.SessionOutput.{AgreesWithout}
 use Rattle.law_kept_images.specs.AcceptedBehind.{IsAcceptedBehind, IsHeldOfPast, IsHeldOfRun}
 use Rattle.law_kept_images.specs.SessionOutput.{IsImageOf, IsMeaning}
 use Rattle.law_kept_images.specs.Wrote.{transcripts_in}

@@ -33,12 +33,12 @@ use Rattle.law_behind.specs.AgreeBehind.{AgreeBehind}
 use Rattle.law_behind.specs.Forgotten.{without}
 use Rattle.law_behind.specs.OrderBehind.{HaveOneOrderBehind}
 use Rattle.law_behind.specs.Past.{Past, since}
-use Rattle.law_continued.specs.Start.{Start}
-use Rattle.law_going_on.specs.EndBehind.{AreWrittenBehind}
+use Rattle.law_kept_images.specs.Start.{Start}
+use Rattle.law_kept_images.specs.EndBehind.{AreWrittenBehind}
 use Rattle.law_moments.specs.AddedInTime.{AddedInTime, FitsBlock}
-use Rattle.law_sequential.specs.RunStart.{RunStart}
-use Rattle.law_sequential.proofs.AtStart.{since_front}
-use Rattle.law_sequential.proofs.Over.{AgreesBehind}
+use Rattle.law_kept_images.specs.RunStart.{RunStart}
+use Rattle.law_kept_images.proofs.AtStart.{since_front}
+use Rattle.law_kept_images.proofs.Over.{AgreesBehind}
 use Rattle.law_concurrent.specs.Joined.{KnewThatOver}
 use Rattle.law_concurrent.specs.JoinedBehind.{IsJoinedBehind}
 use Rattle.law_concurrent.specs.Together.{AreFormed, IsMomentOf, names_in, session_in}

@@ -9,12 +9,12 @@ use Rattle.spec_protocol.specs.Server.{Server}
 use Rattle.spec_protocol.specs.StandTogether.{History, Stands}
 use Rattle.law_behind.specs.Past.{Past}
 use Rattle.law_moments.specs.AddedInTime.{AddedInTime}
-use Rattle.law_sequential.specs.RunStart.{RunStart}
+use Rattle.law_kept_images.specs.RunStart.{RunStart}
 use Rattle.base_types.specs.DatabaseName.{is_database_name}
 use Rattle.base_types.specs.Moment.{is_moment}
 use Rattle.base_types.specs.SessionName.{is_session_name}
 use Rattle.spec_history.specs.Inputs.{InputSession}
-use Rattle.law_image.specs.Room.{FitsImageFormat}
+use Rattle.law_kept_images.specs.Room.{FitsImageFormat}
 use Rattle.spec_syntax.specs.Text.{statement_of}
 use Rattle.spec_protocol.specs.JournalForms.{journal_in}
 use Rattle.spec_protocol.specs.Reordered.{NamesApart}

@@ -7,7 +7,7 @@ use Rattle.base_types.specs.Moment.{is_moment}
 use Rattle.base_types.specs.SessionName.{is_session_name}
 use Rattle.spec_history.specs.Inputs.{InputSession}
 use Rattle.spec_history.specs.Lists.{Text, Each}
-use Rattle.law_image.specs.Room.{FitsImageFormat}
+use Rattle.law_kept_images.specs.Room.{FitsImageFormat}
 use Rattle.spec_syntax.specs.Text.{statement_of}
 use Rattle.spec_protocol.specs.Cells.{Cell, Ledger, LedgerCell, ledger_at}
 use Rattle.spec_protocol.specs.JournalForms.{journal_in}

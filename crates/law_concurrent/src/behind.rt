@@ -16,7 +16,7 @@ ghost use Rattle.spec_protocol.specs.Seats.{Written};
 ghost use Rattle.spec_protocol.specs.Server.{Server};
 ghost use Rattle.law_behind.specs.AgreeBehind.{AgreeBehind};
 ghost use Rattle.law_behind.specs.Past.{Past, no_past};
-ghost use Rattle.law_sequential.specs.RunStart.{RunStart};
+ghost use Rattle.law_kept_images.specs.RunStart.{RunStart};
 ghost use Rattle.law_kept_images.specs.SessionOutput.{IsMeaning};
 ghost use Rattle.law_kept_images.specs.Wrote.{transcripts_in};
 ghost use Rattle.law_concurrent.specs.CameTo.{CameTo, RunResult};
@@ -28,7 +28,7 @@ ghost use Rattle.law_concurrent.specs.TogetherBehind.{RanTogetherBehind};
 
 use crate::laws::statements_have_one_meaning;
 use law_behind::without_a_past_nothing_else_is_meant;
-use law_going_on::{agreement_behind_a_past_is_of_any_order, transcripts_agree_behind_the_past};
+use law_kept_images::{agreement_behind_a_past_is_of_any_order, transcripts_agree_behind_the_past};
 use law_kept_images::{
     digests_are_held_where_their_blocks_are_closed, images_of_legal_journals_verify,
 };

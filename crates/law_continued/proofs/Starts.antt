@@ -14,15 +14,15 @@ use Rattle.spec_history.specs.Sessions.{transcript_of}
 use Rattle.spec_history.specs.Transcripts.{Transcript}
 use Rattle.spec_history.specs.Worlds.{World, first, run}
 use Rattle.spec_history.proofs.Legality.{one_legality}
-use Rattle.spec_ledger.specs.Ledger.{ledger_from, ledger_of}
-use Rattle.law_blocks.proofs.Counting.{closed_counted, entries_counted}
+use Rattle.spec_protocol.specs.Ledger.{ledger_from, ledger_of}
+use Rattle.spec_protocol.proofs.Counting.{closed_counted, entries_counted}
 use Rattle.spec_protocol.specs.AllowedVisit.{first_seat}
 use Rattle.spec_protocol.specs.Cells.{Cell, Ledger, LedgerCell, first_cells, pending_in}
 use Rattle.spec_protocol.specs.Seats.{Written}
 use Rattle.spec_protocol.specs.Server.{Server}
 use Rattle.spec_protocol.specs.StandTogether.{Stands}
-use Rattle.law_behind.specs.Forgotten.{IsWithout}
-use Rattle.law_behind.specs.Past.{behind, no_past, unclosed}
+use Rattle.law_retold.specs.Forgotten.{IsWithout}
+use Rattle.law_retold.specs.Past.{behind, no_past, unclosed}
 use Rattle.law_retold.specs.Retold.{AreWords, CanBeRetold, LeadsTo, Words, past_of, retold}
 use Rattle.law_continued.specs.Continued.{continued_cells, ledger_with, past_seat, transcripts_from, written_from}
 use Rattle.law_continued.specs.Start.{Start}

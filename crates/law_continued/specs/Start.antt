@@ -10,8 +10,8 @@ use Rattle.spec_protocol.specs.LocksAreRequested.{LocksAreRequested}
 use Rattle.spec_protocol.specs.Seats.{IsAtRest, SeatState}
 use Rattle.spec_protocol.specs.Server.{Server}
 use Rattle.spec_protocol.specs.StandTogether.{History, LocksAskedFor, Stands}
-use Rattle.law_behind.specs.Forgotten.{IsWithout}
-use Rattle.law_behind.specs.Past.{IsPast, Past, behind, unclosed}
+use Rattle.law_retold.specs.Forgotten.{IsWithout}
+use Rattle.law_retold.specs.Past.{IsPast, Past, behind, unclosed}
 use Rattle.law_continued.specs.Continued.{transcripts_from}
 
 -- The cells stand together with an idle seat and with the seat of the past, at the end of a history; its first

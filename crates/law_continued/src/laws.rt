@@ -17,7 +17,7 @@ ghost use Rattle.spec_protocol.specs.JournalForms.{HaveForms};
 ghost use Rattle.spec_protocol.specs.LocksAreRequested.{LocksAreRequested};
 ghost use Rattle.spec_protocol.specs.Server.{Server};
 ghost use Rattle.spec_protocol.specs.StandTogether.{LocksAskedFor, Stands};
-ghost use Rattle.law_behind.specs.Past.{no_past, unclosed};
+ghost use Rattle.law_retold.specs.Past.{no_past, unclosed};
 ghost use Rattle.law_retold.specs.Retold.{AreWords, CanBeRetold, Words, past_of, retold};
 ghost use Rattle.law_continued.specs.Continued.{continued_cells, ledger_with, past_seat};
 ghost use Rattle.law_continued.specs.Start.{Start};

@@ -11,7 +11,7 @@ use Rattle.spec_history.specs.Meaning.{Meaning}
 use Rattle.spec_history.specs.Serial.{IsLegal}
 use Rattle.spec_history.specs.StepOrder.{Row, IsStepOrder, rows_facts}
 use Rattle.spec_history.specs.Transcripts.{Transcript}
-use Rattle.law_sequential.specs.Outcome.{IsClosedThere}
+use Rattle.law_kept_images.specs.Outcome.{IsClosedThere}
 use Rattle.law_headline.specs.Before.{ComesBefore, InOneOrder, InOrderOfLines}
 
 -- what holds of each of some elements holds of one in their middle

@@ -32,7 +32,7 @@ use Rattle.law_kept_images.specs.AcceptedBehind.{IsAcceptedBehind, IsHeldOfPast,
 use Rattle.law_kept_images.specs.LastImage.{last_image}
 use Rattle.law_kept_images.proofs.Accepts.{each_in}
 use Rattle.law_kept_images.proofs.WithPast.{IsWhole}
-use Rattle.law_sequential.specs.Outcome.{IsClosedThere}
+use Rattle.law_kept_images.specs.Outcome.{IsClosedThere}
 use Rattle.server_result.specs.Images.{AreKept}
 use Rattle.law_headline.specs.Before.{ComesBefore}
 use Rattle.law_headline.specs.BeforeBehind.{InOrderOfLinesBehind, IsHeldEarlier}

@@ -7,3 +7,4 @@ pub use Rattle.law_kept_images.specs.Accepted
 pub use Rattle.law_kept_images.specs.Held
 pub use Rattle.law_kept_images.specs.LastImage
 pub use Rattle.law_kept_images.specs.SessionOutput
+pub use Rattle.law_kept_images.specs.OutcomeBehind

@@ -11,7 +11,7 @@ ghost use Rattle.spec_syntax.specs.Text.{statement_of};
 ghost use Rattle.spec_protocol.specs.Seats.{KeptImage};
 ghost use Rattle.law_image.specs.Room.{FitsImageFormat};
 ghost use Rattle.law_behind.specs.Past.{Past};
-ghost use Rattle.law_sequential.specs.OutcomeBehind.{RunAgreesBehind};
+ghost use Rattle.law_kept_images.specs.OutcomeBehind.{RunAgreesBehind};
 ghost use Rattle.law_concurrent.specs.CameTo.{RunResult};
 ghost use Rattle.law_concurrent.specs.CameToBehind.{CameToBehind};
 ghost use Rattle.server_result.specs.Images.{AreKept};
@@ -24,7 +24,7 @@ use base_io::Clock;
 use law_catalog_text::readings_of_the_grammar_give_written;
 use law_image::legal_images_are_encodable;
 use law_kept_images::kept_images_behind_a_past_are_accepted;
-use law_sequential::digests_behind_a_past_are_closed_in_later_images;
+use law_kept_images::digests_behind_a_past_are_closed_in_later_images;
 
 /// So it is of a run that goes on from a journal: every saved image has all of it, and `verify` says Yes of it with
 /// every digest issued before, in this run or ever of that journal, and binds whatever else it says Yes of with them.

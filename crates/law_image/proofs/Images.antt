@@ -16,7 +16,7 @@ use Rattle.spec_model.specs.Journals.{serial, tx_count, IsLegal}
 use Rattle.spec_model.specs.Runs.{Sound, SoundTable}
 use Rattle.spec_model.specs.Script.{Reading}
 use Rattle.spec_model.specs.SystemTables.{tables_def, columns_def}
-use Rattle.spec_history.specs.Journals.{blocks}
+use Rattle.law_blocks.specs.Journals.{blocks}
 use Rattle.law_frame.proofs.Alls.{all_append}
 use Rattle.law_frame.proofs.StepByStep.{Any}
 use Rattle.law_journal.specs.Serial.{TableOf}

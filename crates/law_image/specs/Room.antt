@@ -9,7 +9,7 @@ use Rattle.sql_types.specs.declared.version.Table.{Table}
 use Rattle.sql_types.specs.declared.version.Version.{Version}
 use Rattle.spec_model.specs.Journals.{serial, tx_count}
 use Rattle.spec_model.specs.Script.{Reading}
-use Rattle.spec_history.specs.Journals.{blocks}
+use Rattle.law_blocks.specs.Journals.{blocks}
 
 -- 8 bytes can tell the number of its start, and of its end if it has one, and its texts are UTF-8
 pub record VersionFitsFormat (v : Version) : Type 0 where

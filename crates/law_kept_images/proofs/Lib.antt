@@ -8,3 +8,6 @@ pub use Rattle.law_sequential.proofs.RanFirst
 pub use Rattle.law_sequential.proofs.Reorders
 pub use Rattle.law_sequential.proofs.SameNames
 pub use Rattle.law_sequential.proofs.TheEnd
+pub use Rattle.law_sequential.proofs.AtStart
+pub use Rattle.law_sequential.proofs.Over
+pub use Rattle.law_sequential.proofs.SessionOutput

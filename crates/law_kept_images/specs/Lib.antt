@@ -4,3 +4,9 @@ pub mod LastImage
 pub use Rattle.law_sequential.specs.SessionOutput
 pub use Rattle.law_sequential.specs.Wrote
 pub use Rattle.law_accepts.specs.Held
+pub use Rattle.law_sequential.specs.RunStart
+pub use Rattle.law_sequential.specs.EndBehind
+pub use Rattle.law_sequential.specs.Start
+pub use Rattle.law_sequential.specs.Outcome
+pub use Rattle.law_sequential.specs.OutcomeBehind
+pub use Rattle.law_accepts.specs.Room

@@ -28,7 +28,7 @@ use Rattle.spec_protocol.specs.TranscriptsAgree.{SeatAgrees, TranscriptsAgree}
 use Rattle.spec_protocol.specs.StandTogether.{LocksAskedFor, Stands}
 use Rattle.spec_model.specs.Agreement.{columns_at}
 use Rattle.spec_model.specs.Keys.{of_key}
-use Rattle.spec_ledger.specs.Ledger.{ledger_from}
+use Rattle.spec_protocol.specs.Ledger.{ledger_from}
 
 -- ---- cells
 

@@ -32,7 +32,7 @@ use Rattle.spec_protocol.specs.Visits.{Visit, Happens}
 use Rattle.law_protocol.proofs.Decides.{done_first, nothing_more}
 use Rattle.law_protocol_steps.proofs.AnonymousActs.{at_after}
 use Rattle.law_protocol_steps.proofs.Ids.{each_in, running}
-use Rattle.law_protocol_end.proofs.NoneWanting.{listed_is, past_over}
+use Rattle.law_protocol_ledger.proofs.NoneWanting.{listed_is, past_over}
 use Rattle.law_protocol.proofs.OneAtATime.{IsPlain}
 use Rattle.law_protocol.proofs.OneSeat.{counted}
 use Rattle.spec_protocol.proofs.Places.{set_here}

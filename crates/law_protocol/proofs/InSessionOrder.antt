@@ -3,7 +3,7 @@ use Rattle.std.proofs.Common.{◌≡◌, ◌≢◌, ◌⊎◌, ℕ, zero, suc, �
 use Rattle.spec_history.specs.Inputs.{InputSession}
 use Rattle.spec_history.specs.Lists.{Text, Each, Some_of, At}
 use Rattle.spec_history.specs.Transcripts.{Transcript}
-use Rattle.law_protocol_end.proofs.Reorders.{each_is_placed}
+use Rattle.law_protocol_ledger.proofs.Reorders.{each_is_placed}
 use Rattle.spec_protocol.specs.Reordered.{InOrderOf, IsSessionOrder, NamesApart, Reordered, as_is, swaps, swapped, turned}
 
 module _ {A : Type 0} where

@@ -17,7 +17,7 @@ use Rattle.spec_protocol.specs.Seats.{SeatState, Written}
 use Rattle.spec_protocol.specs.Server.{Server}
 use Rattle.spec_protocol.specs.StandTogether.{History, Stands}
 use Rattle.spec_protocol.specs.TranscriptsAgree.{ImagesOfPast, image_of}
-use Rattle.law_protocol_end.proofs.GoneFree.{gone_rests}
+use Rattle.law_protocol_ledger.proofs.GoneFree.{gone_rests}
 
 -- an act shows the image that it keeps, and no other
 by_act : (a : SessionAct) → image_of a ≡ flat_map image_items (shown a)

@@ -25,10 +25,10 @@ pub mod SinceFirst
 pub mod StepOrderKept
 pub mod StepsAlone
 pub mod StepsKeep
-pub use Rattle.law_protocol_end.proofs.JoinsStand
-pub use Rattle.law_protocol_end.proofs.RanFirst
-pub use Rattle.law_protocol_end.proofs.Reorders
-pub use Rattle.law_protocol_end.proofs.TheEnd
+pub use Rattle.law_protocol_ledger.proofs.JoinsStand
+pub use Rattle.law_protocol_ledger.proofs.RanFirst
+pub use Rattle.law_protocol_ledger.proofs.Reorders
+pub use Rattle.law_protocol_ledger.proofs.TheEnd
 pub use Rattle.law_protocol_ledger.proofs.Splits
 pub use Rattle.law_protocol_steps.proofs.LedgerVisit
 pub use Rattle.law_protocol_tables.proofs.KeepsAsked

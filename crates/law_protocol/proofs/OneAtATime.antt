@@ -30,10 +30,10 @@ use Rattle.spec_protocol.specs.TranscriptsSoFar.{shown_at}
 use Rattle.law_protocol.proofs.Decides.{done_first, nothing_more}
 use Rattle.law_protocol_steps.proofs.AfterSet.{all_at}
 use Rattle.law_protocol_steps.proofs.AnonymousActs.{at_after}
-use Rattle.law_protocol_end.proofs.GoneFree.{gone_rests}
+use Rattle.law_protocol_ledger.proofs.GoneFree.{gone_rests}
 use Rattle.law_protocol.proofs.IdleOnes.{idle_goes_on}
 use Rattle.law_protocol_steps.proofs.Ids.{Running, each_in, running}
-use Rattle.law_protocol_end.proofs.NoneWanting.{listed_is, past_over}
+use Rattle.law_protocol_ledger.proofs.NoneWanting.{listed_is, past_over}
 use Rattle.law_protocol.proofs.OneSeat.{acted_in}
 
 -- ---- acts that leave what is under way

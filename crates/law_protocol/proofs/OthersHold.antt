@@ -32,12 +32,12 @@ use Rattle.spec_protocol.specs.Seats.{OpenTransaction, SessionStatus, between, i
 use Rattle.spec_protocol.specs.StandTogether.{History, LocksAskedFor, Stands}
 use Rattle.spec_protocol.specs.TranscriptsAgree.{TranscriptsAgree}
 use Rattle.spec_protocol.specs.RequestsIn.{of_catalog, of_cell, requests_in, Holds}
-use Rattle.law_protocol_end.proofs.GoneFree.{gone_free}
+use Rattle.law_protocol_ledger.proofs.GoneFree.{gone_free}
 use Rattle.law_protocol.proofs.HeldStatements.{Made, at_held, held_at, in_map, statement_of}
 use Rattle.law_protocol.proofs.IdleOnes.{idle_goes_on}
 use Rattle.law_protocol_steps.proofs.Ids.{each_in}
 use Rattle.law_protocol_tables.proofs.MetLock as met
-use Rattle.law_protocol_end.proofs.NoneWanting.{listed_is, past_over}
+use Rattle.law_protocol_ledger.proofs.NoneWanting.{listed_is, past_over}
 
 -- ---- places between statements
 

@@ -19,8 +19,8 @@ use Rattle.spec_protocol.specs.StandTogether.{History}
 use Rattle.spec_protocol.specs.TranscriptsAgree.{TranscriptsAgree}
 use Rattle.spec_protocol.specs.Visits.{Visit, Happens}
 use Rattle.spec_protocol.specs.Visits as visit
-use Rattle.law_protocol_end.proofs.NoneWanting.{listed_is, past_over}
-use Rattle.law_protocol_end.proofs.TheEnd.{past_has}
+use Rattle.law_protocol_ledger.proofs.NoneWanting.{listed_is, past_over}
+use Rattle.law_protocol_ledger.proofs.TheEnd.{past_has}
 
 -- ---- a session's name is one of its seat's
 

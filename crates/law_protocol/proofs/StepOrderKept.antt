@@ -11,7 +11,7 @@ use Rattle.spec_protocol.specs.Seats.{SeatState}
 use Rattle.spec_protocol.specs.Server.{Server}
 use Rattle.spec_protocol.specs.StandTogether.{History, Stands}
 use Rattle.spec_protocol.specs.StepOrderThen.{KeepsStepOrder}
-use Rattle.law_protocol_end.proofs.TheEnd.{below}
+use Rattle.law_protocol_ledger.proofs.TheEnd.{below}
 
 pub keeps_order : (v : Server) (history : History) (cells : List Cell) (seats : List SeatState) (st : Stands v history cells seats) → LocksDecideIn v [] history → KeepsStepOrder v history seats st.ledger.items
 keeps_order v history cells seats st decide N input X written differ alone ends in_step = subst (StepOrder v.meaning N (lines_of first history) X) st.transcripts_agree.items (record {

@@ -82,7 +82,7 @@ use Rattle.law_protocol_tables.proofs.GivesBackStand.{gives_back}
 use Rattle.law_protocol_steps.proofs.GoesOn.{Goes, IsClosing, unacted, after_acts, closed_one, none_done, still, closed_first, goes_on}
 use Rattle.law_protocol.proofs.LedgerBase.{KeepsBase, base_stays, may_base, steps_base}
 use Rattle.law_protocol_tables.proofs.GoingBack.{undoes_to, releases_table}
-use Rattle.law_protocol_end.proofs.JoinsStand.{back, join_stands}
+use Rattle.law_protocol_ledger.proofs.JoinsStand.{back, join_stands}
 use Rattle.law_protocol_steps.proofs.JournalMore.{serial_more}
 use Rattle.law_protocol_tables.proofs.KeepsAsked.{defs_at, same_ledger, stay_asked, still_asked_for}
 use Rattle.law_protocol_ledger.proofs.KeepsStand.{keeps_stand}

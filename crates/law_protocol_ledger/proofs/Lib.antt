@@ -24,3 +24,10 @@ pub mod StepsTake
 pub mod Visited
 pub use Rattle.law_protocol_changes.proofs.CreateVisits
 pub use Rattle.law_protocol_changes.proofs.DigestsStand
+pub use Rattle.law_protocol_end.proofs.BegunNames
+pub use Rattle.law_protocol_end.proofs.GoneFree
+pub use Rattle.law_protocol_end.proofs.JoinsStand
+pub use Rattle.law_protocol_end.proofs.NoneWanting
+pub use Rattle.law_protocol_end.proofs.RanFirst
+pub use Rattle.law_protocol_end.proofs.Reorders
+pub use Rattle.law_protocol_end.proofs.TheEnd

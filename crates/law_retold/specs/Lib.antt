@@ -1,1 +1,3 @@
 pub mod Retold
+pub use Rattle.law_behind.specs.Forgotten
+pub use Rattle.law_behind.specs.Past

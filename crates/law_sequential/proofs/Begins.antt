@@ -19,9 +19,9 @@ use Rattle.spec_protocol.specs.Seats.{SeatState}
 use Rattle.spec_protocol.specs.Server.{Server}
 use Rattle.spec_protocol.specs.TranscriptsAgree.{moments_of}
 use Rattle.law_behind.specs.Past.{Past, no_past, unclosed}
-use Rattle.law_retold.specs.Retold.{AreWords, CanBeRetold, Words, past_of}
-use Rattle.law_continued.specs.Continued.{continued_cells, ledger_with, past_seat}
-use Rattle.law_continued.specs.Start.{Start}
+use Rattle.law_going_on.specs.Retold.{AreWords, CanBeRetold, Words, past_of}
+use Rattle.law_going_on.specs.Continued.{continued_cells, ledger_with, past_seat}
+use Rattle.law_going_on.specs.Start.{Start}
 use Rattle.law_sequential.specs.RunStart.{RunStart}
 
 -- the laws that are used

@@ -26,3 +26,10 @@ pub use Rattle.law_protocol.proofs.RanFirst
 pub use Rattle.law_protocol.proofs.Reorders
 pub use Rattle.law_protocol.proofs.StepsAlone
 pub use Rattle.law_protocol.proofs.TheEnd
+pub use Rattle.law_protocol.proofs.AlonesKeep
+pub use Rattle.law_protocol.proofs.JoinsStand
+pub use Rattle.law_protocol.proofs.KeepsAsked
+pub use Rattle.law_protocol.proofs.KeepsRequested
+pub use Rattle.law_protocol.proofs.Splits
+pub use Rattle.law_protocol.proofs.StepsKeep
+pub use Rattle.law_moments.proofs.Steps

@@ -21,7 +21,7 @@ use Rattle.law_behind.specs.AgreeBehind.{AgreeBehind}
 use Rattle.law_behind.specs.Forgotten.{without}
 use Rattle.law_behind.specs.OrderBehind.{HaveOneOrderBehind, StepOrderBehind}
 use Rattle.law_behind.specs.Past.{Past, unclosed}
-use Rattle.law_continued.specs.Start.{Start}
+use Rattle.law_going_on.specs.Start.{Start}
 use Rattle.law_going_on.specs.EndBehind.{AreWrittenBehind}
 use Rattle.law_sequential.specs.RunStart.{RunStart}
 use Rattle.law_sequential.specs.RunBehind.{SequentialRunBehind}

@@ -22,8 +22,8 @@ use Rattle.spec_history.specs.Meaning.{Meaning}
 use Rattle.spec_history.specs.Transcripts.{Transcript}
 use Rattle.spec_history.proofs.Real.{real, is_real}
 use Rattle.spec_history.proofs.Trace.{each_append, each_weaker}
-use Rattle.format_image.specs.Image.{image_of}
-use Rattle.format_image.specs.ImageBytes.{image_bytes}
+use Rattle.spec_protocol.specs.Image.{image_of}
+use Rattle.spec_protocol.specs.ImageBytes.{image_bytes}
 use Rattle.spec_protocol.proofs.Staying.{hashing}
 use Rattle.spec_protocol.specs.AtTheEnd.{HasItsImages, image_items}
 use Rattle.spec_protocol.specs.AllowedVisit.{first_seat}
@@ -42,7 +42,7 @@ use Rattle.law_sequential.specs.OutcomeBehind.{OutcomeBehind, HasEndedBehind, Ru
 use Rattle.law_behind.specs.AgreeBehind.{AgreeBehind}
 use Rattle.law_behind.specs.OrderBehind.{StepOrderBehind}
 use Rattle.law_behind.specs.Past.{Past, no_past, since as since_past}
-use Rattle.law_continued.specs.Start.{Start}
+use Rattle.law_going_on.specs.Start.{Start}
 use Rattle.law_moments.specs.AddedInTime.{AddedInTime}
 use Rattle.law_sequential.specs.SessionOutput.{IsMeaning, IsImageOf, RunAgrees}
 use Rattle.law_sequential.specs.Wrote.{Wrote, transcripts_in}

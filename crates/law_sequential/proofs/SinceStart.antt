@@ -17,7 +17,7 @@ use Rattle.spec_protocol.specs.Server.{Server}
 use Rattle.spec_protocol.specs.StandTogether.{History, LocksAskedFor, Stands, StandsLater, StandTogether}
 use Rattle.spec_protocol.specs.Steps.{Steps}
 use Rattle.law_protocol.proofs.StepsKeep.{all_alone}
-use Rattle.law_continued.specs.Start.{Start}
+use Rattle.law_going_on.specs.Start.{Start}
 use Rattle.law_sequential.proofs.InFront.{all_behind, one_by_one_behind, same_acts, same_lines}
 
 module _ {v : Server} {database : Text} {size : ℕ} (start : Start v database size) where

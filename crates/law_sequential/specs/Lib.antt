@@ -9,3 +9,8 @@ pub mod Sessions
 pub mod SessionsBehind
 pub mod SessionOutput
 pub mod Wrote
+pub use Rattle.law_going_on.specs.Continued
+pub use Rattle.law_going_on.specs.EndBehind
+pub use Rattle.law_going_on.specs.Start
+pub use Rattle.law_moments.specs.AddedInTime
+pub use Rattle.law_going_on.specs.Retold

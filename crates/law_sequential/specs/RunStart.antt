@@ -7,7 +7,7 @@ use Rattle.spec_protocol.specs.SeatNames.{names_of}
 use Rattle.spec_protocol.specs.Server.{Server}
 use Rattle.spec_protocol.specs.TranscriptsAgree.{moments_of}
 use Rattle.law_behind.specs.Past.{Past}
-use Rattle.law_continued.specs.Start.{Start}
+use Rattle.law_going_on.specs.Start.{Start}
 
 -- A server starts with this past, and names and moments that its past's seat has are such.
 pub record RunStart (v : Server) (database : Text) (size : ℕ) (past : Past) : Type 0 where

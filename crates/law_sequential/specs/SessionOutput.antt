@@ -11,8 +11,8 @@ use Rattle.spec_history.specs.Lists.{Text, Each, In}
 use Rattle.spec_history.specs.Meaning.{Meaning}
 use Rattle.spec_history.specs.Real.{Hashing, IsReal}
 use Rattle.spec_history.specs.Transcripts.{Transcript}
-use Rattle.format_image.specs.Image.{image_of_cut}
-use Rattle.format_image.specs.ImageBytes.{image_bytes}
+use Rattle.spec_protocol.specs.Image.{image_of_cut}
+use Rattle.spec_protocol.specs.ImageBytes.{image_bytes}
 use Rattle.spec_ledger.specs.Ledger.{block_hash}
 use Rattle.spec_protocol.specs.AtTheEnd.{image_items}
 use Rattle.spec_protocol.specs.Cells.{Cell, pending_in}

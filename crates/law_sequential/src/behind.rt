@@ -39,8 +39,8 @@ ghost use Rattle.spec_protocol.specs.Steps.{Step};
 ghost use Rattle.spec_protocol.specs.Serves.{Serves};
 ghost use Rattle.law_behind.specs.OrderBehind.{IsStepOrderBehind};
 ghost use Rattle.law_behind.specs.Past.{Past, no_past, since, unclosed};
-ghost use Rattle.law_retold.specs.Retold.{AreWords, CanBeRetold, Words, past_of};
-ghost use Rattle.law_continued.specs.Continued.{continued_cells};
+ghost use Rattle.law_going_on.specs.Retold.{AreWords, CanBeRetold, Words, past_of};
+ghost use Rattle.law_going_on.specs.Continued.{continued_cells};
 ghost use Rattle.law_sequential.specs.RunStart.{RunStart};
 ghost use Rattle.law_sequential.specs.SequentialRun.{StaysInside};
 ghost use Rattle.law_sequential.specs.RunBehind.{SequentialRunBehind};
@@ -52,7 +52,7 @@ ghost use Rattle.law_sequential.specs.SessionOutput.{RunAgrees};
 ghost use Rattle.law_sequential.specs.Wrote.{Wrote, transcripts_in};
 
 use law_behind::without_a_past_nothing_else_is_meant;
-use law_continued::{a_journal_that_goes_on_keeps_its_forms, a_server_starts};
+use law_going_on::{a_journal_that_goes_on_keeps_its_forms, a_server_starts};
 use law_going_on::transcripts_agree_behind_the_past;
 use law_moments::new_items_have_moments_of_seats;
 

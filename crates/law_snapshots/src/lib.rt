@@ -4,3 +4,4 @@
 mod law;
 
 pub use law::snapshots_are_of_serial_runs;
+pub use server_reader::{images_of_cuts_are_encodable, push_answers};

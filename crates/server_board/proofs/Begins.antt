@@ -8,7 +8,7 @@ use Rattle.spec_protocol.specs.AllowedVisit.{first_seat}
 use Rattle.spec_protocol.specs.Cells.{Cell, Ledger, LedgerCell, ledger_at}
 use Rattle.spec_protocol.specs.Serves.{Serves}
 use Rattle.spec_protocol.specs.StandTogether.{StandTogether}
-use Rattle.law_moments.specs.AddedInTime.{AddedInTime}
+use Rattle.law_sequential.specs.AddedInTime.{AddedInTime}
 use Rattle.law_sequential.specs.RunStart.{RunStart}
 use Rattle.law_sequential.proofs.AtStart.{none_added}
 use Rattle.server_board.specs.Laws.{one_ledger}

@@ -1,3 +1,3 @@
 pub mod Begins
 pub mod Unchanged
-pub use Rattle.law_protocol.proofs.AlonesKeep
+pub use Rattle.law_sequential.proofs.AlonesKeep

@@ -13,13 +13,13 @@ use Rattle.spec_protocol.specs.Server.{Server}
 use Rattle.spec_protocol.specs.StandTogether.{History, StandTogether}
 use Rattle.spec_protocol.specs.Steps as steps
 use Rattle.spec_protocol.specs.Steps.{Step}
-use Rattle.law_protocol.proofs.JoinsStand.{back, join_stands}
-use Rattle.law_protocol.proofs.KeepsAsked.{still_asked_for}
-use Rattle.law_protocol.proofs.KeepsRequested.{same_requested, split_requested}
-use Rattle.law_protocol.proofs.Splits.{splits_stand}
-use Rattle.law_protocol.proofs.StepsKeep.{may_keeps}
-use Rattle.law_moments.specs.AddedInTime.{AddedInTime}
-use Rattle.law_moments.proofs.Steps.{one_step}
+use Rattle.law_sequential.proofs.JoinsStand.{back, join_stands}
+use Rattle.law_sequential.proofs.KeepsAsked.{still_asked_for}
+use Rattle.law_sequential.proofs.KeepsRequested.{same_requested, split_requested}
+use Rattle.law_sequential.proofs.Splits.{splits_stand}
+use Rattle.law_sequential.proofs.StepsKeep.{may_keeps}
+use Rattle.law_sequential.specs.AddedInTime.{AddedInTime}
+use Rattle.law_sequential.proofs.Steps.{one_step}
 use Rattle.server_board.specs.ServedDatabase.{ServedDatabase, outs_seen, IsOf, StandsOn, MayVisitServed}
 
 each_set : {A : Type 0} (P : A → Type 0) (xs : List A) → Each P xs → (i : ℕ) (x : A) → P x → Each P (slice_set xs i x)

@@ -9,7 +9,7 @@ use Rattle.spec_protocol.specs.Seats.{SeatState}
 use Rattle.spec_protocol.specs.Server.{Server}
 use Rattle.spec_protocol.specs.StandTogether.{History, StandTogether}
 use Rattle.law_behind.specs.Past.{Past}
-use Rattle.law_moments.specs.AddedInTime.{AddedInTime}
+use Rattle.law_sequential.specs.AddedInTime.{AddedInTime}
 use Rattle.law_sequential.specs.RunStart.{RunStart}
 
 -- a database of a server, whose blocks take at most so many entries, and the journal from which it goes on

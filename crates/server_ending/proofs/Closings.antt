@@ -16,11 +16,11 @@ use Rattle.server_engine.specs.Full.{ClosesNext, ClosesPending, IsLedger}
 use Rattle.server_session.specs.KeptCell.{KeptCell, Keeps}
 use Rattle.server_session.specs.Steps.{items_of}
 use Rattle.server_session.specs.SessionOutput.{pending_of, size_of}
-use Rattle.server_board.specs.Laws.{visits_keep}
-use Rattle.server_board.specs.ServedDatabase.{ServedDatabase, StandsOn}
+use Rattle.server_engine.specs.Laws.{visits_keep}
+use Rattle.server_engine.specs.ServedDatabase.{ServedDatabase, StandsOn}
 use Rattle.server_engine.specs.Standing.{pending_found}
 use Rattle.server_engine.proofs.Pairs.{seen_at}
-use Rattle.law_server.proofs.Servers.{some_server}
+use Rattle.server_engine.proofs.Servers.{some_server}
 use Rattle.server_ending.specs.Closing.{pending_there, ClosesThere, HasLedger, StandBeside, StillStand}
 use Rattle.server_engine.proofs.ClosingPending.{kept_there, may_close}
 

@@ -13,7 +13,7 @@ use Rattle.spec_protocol.specs.Serves.{Serves}
 use Rattle.server_engine.specs.Full.{ClosesPending, IsLedger}
 use Rattle.server_session.specs.KeptCell.{KeptCell, Keeps}
 use Rattle.server_session.specs.SessionOutput.{pending_of, size_of}
-use Rattle.server_board.specs.ServedDatabase.{ServedDatabase, StandsOn}
+use Rattle.server_engine.specs.ServedDatabase.{ServedDatabase, StandsOn}
 use Rattle.server_engine.specs.Standing.{cells_seen, pending_at}
 
 -- so many entries of the ledger's cell are in no block yet

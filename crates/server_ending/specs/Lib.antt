@@ -4,3 +4,4 @@ pub use Rattle.server_engine.specs.Images
 pub use Rattle.server_engine.specs.SessionOutput
 pub use Rattle.server_engine.specs.Standing
 pub use Rattle.server_engine.specs.Wrote
+pub use Rattle.server_session.specs.KeptCell

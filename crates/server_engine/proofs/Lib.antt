@@ -21,3 +21,4 @@ pub mod Within
 pub use Rattle.law_sequential.proofs.SameNames
 pub use Rattle.law_sequential.proofs.SessionOutput
 pub use Rattle.server_visits.proofs.ImagesOfCells
+pub use Rattle.server_visits.proofs.Servers

@@ -12,3 +12,8 @@ pub use Rattle.law_sequential.specs.EndsLast
 pub use Rattle.server_visits.specs.Full
 pub use Rattle.server_visits.specs.Images
 pub use Rattle.server_visits.specs.LedgerSeen
+pub use Rattle.server_board.specs.Laws
+pub use Rattle.server_board.specs.ServedDatabase
+pub use Rattle.server_visits.specs.Definitions
+pub use Rattle.server_visits.specs.GoingOn
+pub use Rattle.server_visits.specs.HashedCell

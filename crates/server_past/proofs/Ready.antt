@@ -25,9 +25,9 @@ use Rattle.law_blocks.proofs.Staying.{blocks_counted}
 use Rattle.law_catalog_rows.proofs.Journals as rows
 use Rattle.law_journal.proofs.Serials.{legal_described}
 use Rattle.spec_continued.specs.Continued.{catalog_of, catalog_with}
-use Rattle.store_catalog.specs.Definitions.{AreFormed}
-use Rattle.store_catalog.specs.GoingOn.{HaveNewNames}
-use Rattle.store_ledger.specs.HashedCell.{IsCounted}
+use Rattle.server_engine.specs.Definitions.{AreFormed}
+use Rattle.server_engine.specs.GoingOn.{HaveNewNames}
+use Rattle.server_engine.specs.HashedCell.{IsCounted}
 use Rattle.server_engine.specs.FirstCells.{all_empty}
 use Rattle.server_past.specs.PastCells.{all_rows_kept, rows_kept}
 use Rattle.server_past.specs.Ready.{AreReady}

@@ -12,7 +12,7 @@ use Rattle.spec_continued.specs.Continued.{catalog_of, cell_with, ledger_from, t
 use Rattle.law_behind.specs.Past.{Past}
 use Rattle.audit_replay.specs.declared.past.Past.{Past as ReplayedPast}
 use Rattle.server_session.specs.KeptCell.{KeptCell, catalog_seen, rows_seen}
-use Rattle.server_visits.specs.LedgerSeen.{ledger_seen}
+use Rattle.server_engine.specs.LedgerSeen.{ledger_seen}
 
 -- the cell of this table
 abbrev pub rows_kept : Table → KeptCell

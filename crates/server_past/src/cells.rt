@@ -8,7 +8,7 @@ ghost use Rattle.spec_model.specs.Runs.{Rising};
 ghost use Rattle.audit_replay.specs.GoesOn.{LeadsOn};
 ghost use Rattle.spec_continued.specs.Continued.{catalog_of};
 ghost use Rattle.server_session.specs.KeptCell.{catalog_seen};
-ghost use Rattle.server_visits.specs.LedgerSeen.{ledger_seen};
+ghost use Rattle.server_engine.specs.LedgerSeen.{ledger_seen};
 ghost use Rattle.server_engine.specs.FirstCells.{all_empty};
 ghost use Rattle.server_engine.specs.Starts.{Starts, past_in};
 ghost use Rattle.server_past.specs.PastCells.{all_rows_kept, cells_kept, past_seen, rows_kept};
@@ -18,7 +18,7 @@ ghost use Rattle.server_past.specs.declared.cells.TheConstants.{BEHIND_TABLES, S
 use crate::laws::runs_start_behind_a_past;
 use audit_replay::Past;
 use base_types::Memory;
-use server_visits::{CatalogCell, Cell, LedgerCell, TableCell};
+use server_engine::{CatalogCell, Cell, LedgerCell, TableCell};
 use sql_types::{Table, TableDef};
 use std::alloc::Global;
 

@@ -8,7 +8,7 @@ use Rattle.spec_protocol.specs.AllowedVisit.{first_seat}
 use Rattle.spec_protocol.specs.Cells.{Catalog, Cell, Ledger, LedgerCell, Rows, cell_count, ledger_at}
 use Rattle.spec_protocol.specs.Seats.{SeatState, idle_seat}
 use Rattle.spec_protocol.specs.Serves.{Serves}
-use Rattle.server_session.specs.KeptCell.{KeptCell, Keeps}
+use Rattle.server_ending.specs.KeptCell.{KeptCell, Keeps}
 use Rattle.server_ending.specs.Standing.{cells_seen}
 use Rattle.server_thread.specs.Seated.{IsIdle}
 use Rattle.server_thread.specs.ServedDatabase.{ServedDatabase, StandsOn}

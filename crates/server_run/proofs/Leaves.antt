@@ -37,7 +37,7 @@ use Rattle.server_ending.specs.Images.{CellsStand}
 use Rattle.server_ending.proofs.ImagesOfCells.{bytes_are_the_journals}
 use Rattle.server_thread.specs.Laws.{one_ledger}
 use Rattle.server_thread.specs.ServedDatabase.{IsOf as IsOfDatabase, ServedDatabase}
-use Rattle.server_reader.specs.Answered.{AreAnsweredOver, whole_database}
+use Rattle.law_snapshots.specs.Answered.{AreAnsweredOver, whole_database}
 use Rattle.server_result.specs.Images.{AreKept, with_each}
 use Rattle.server_result.specs.Moments.{IsMoment}
 use Rattle.server_result.specs.declared.ran.RunOutcome.{RunOutcome}

@@ -15,7 +15,7 @@ use Rattle.format_transcript.specs.TranscriptText.{entry_text, transcript_text}
 use Rattle.spec_protocol.specs.Seats.{KeptImage, Written}
 use Rattle.server_ending.specs.SessionOutput.{IsImageOf}
 use Rattle.server_ending.specs.Wrote.{transcripts_in}
-use Rattle.server_reader.specs.Answered.{AreAnswered, AreAnsweredOver, whole_database}
+use Rattle.law_snapshots.specs.Answered.{AreAnswered, AreAnsweredOver, whole_database}
 use Rattle.server_result.specs.Joined.{joined, joined_each}
 use Rattle.server_run.specs.CameTo.{AllAnswered, IsAnswered, texts_with}
 use Rattle.server_run.specs.FinishedRun.{setup_name}

@@ -6,7 +6,7 @@ use Rattle.spec_history.proofs.Settles.{in_append, in_left, in_right}
 use Rattle.spec_history.proofs.Trace.{each_append, each_weaker}
 use Rattle.format_sections.specs.declared.section.Section.{Section}
 use Rattle.format_sections.specs.RunSections.{section_view, statements_answered, statements_run}
-use Rattle.server_reader.specs.Answered.{AreAnsweredBehind}
+use Rattle.law_snapshots.specs.Answered.{AreAnsweredBehind}
 use Rattle.spec_protocol.specs.Seats.{idle, IsAtRest, joined, kept, split, Role, SeatState, Written}
 use Rattle.server_thread.specs.Seated.{all_known, known_by, known_in}
 use Rattle.server_run.specs.AllWrote.{AreWritten, HaveWritten, BeganAfterAll}

@@ -9,7 +9,7 @@ use Rattle.spec_history.specs.Transcripts.{Transcript}
 use Rattle.spec_history.proofs.Settles.{in_right}
 use Rattle.spec_history.proofs.Trace.{each_weaker}
 use Rattle.format_sections.specs.declared.section.Section.{Section}
-use Rattle.server_session.specs.KeptCell.{KeptCell, Keeps}
+use Rattle.server_ending.specs.KeptCell.{KeptCell, Keeps}
 use Rattle.spec_protocol.specs.Seats.{nobody, SeatState, Written}
 use Rattle.server_thread.specs.ServedDatabase.{ServedDatabase, StandsOn}
 use Rattle.server_run.specs.FinishedRun.{HasFinished, setup_name}

@@ -6,7 +6,7 @@ use Rattle.spec_protocol.specs.Seats.{IsAtRest, SeatState, Written}
 use Rattle.format_sections.specs.declared.section.Section.{Section}
 use Rattle.format_sections.specs.RunSections.{section_view, statements_answered, statements_run}
 use Rattle.server_thread.specs.SessionEnd.{SessionEnd}
-use Rattle.server_reader.specs.Answered.{AreAnsweredBehind}
+use Rattle.law_snapshots.specs.Answered.{AreAnsweredBehind}
 use Rattle.server_thread.specs.Seated.{known_by}
 use Rattle.server_thread.specs.Wrote.{IsWritten}
 

@@ -19,7 +19,7 @@ use Rattle.spec_syntax.specs.Text.{statement_of}
 use Rattle.format_sections.specs.RunSections.{RunSections, Section, statements_answered, statements_run}
 use Rattle.format_sections.specs.declared.kind.SectionKind.TheVariants.{Session}
 use Rattle.spec_protocol.specs.Seats.{KeptImage}
-use Rattle.server_reader.specs.Answered.{AreAnsweredOver}
+use Rattle.law_snapshots.specs.Answered.{AreAnsweredOver}
 use Rattle.server_result.specs.Images.{AreKept}
 use Rattle.server_result.specs.Joined.{joined}
 use Rattle.server_result.specs.Moments.{IsMoment}

@@ -11,7 +11,7 @@ use Rattle.base_board.specs.declared.board.BoardSeat.{BoardSeat}
 use Rattle.base_board.specs.declared.world.World.{Ghosts}
 use Rattle.spec_history.specs.Lists.{Text, Each, In}
 use Rattle.format_sections.specs.declared.section.Section.{Section}
-use Rattle.server_session.specs.KeptCell.{KeptCell, Keeps}
+use Rattle.server_ending.specs.KeptCell.{KeptCell, Keeps}
 use Rattle.spec_protocol.specs.Seats.{IsAtRest, joined, nobody, SeatState, Written}
 use Rattle.server_thread.specs.ServedDatabase.{ServedDatabase, StandsOn}
 use Rattle.server_run.specs.AllWrote.{AreWritten}

@@ -26,7 +26,7 @@ use law_concurrent::{
 };
 use law_snapshots::snapshots_are_of_serial_runs;
 use server_ending::{close_all, left_by, left_closed};
-use server_reader::images_of_cuts_are_encodable;
+use law_snapshots::images_of_cuts_are_encodable;
 use server_result::{RunOutcome, Settings, is_encodable, moment};
 use server_thread::{Cell, first_cells, runs_start};
 use std::alloc::Global;

@@ -8,3 +8,4 @@ pub mod OneList
 pub mod Places
 pub mod Steps
 pub mod Whole
+pub use Rattle.law_kept_images.proofs.SessionOutput

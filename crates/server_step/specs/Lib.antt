@@ -7,3 +7,6 @@ pub mod Reached
 pub mod Woven
 pub mod Written
 pub use Rattle.server_engine.specs.SessionOutput
+pub use Rattle.server_engine.specs.Starts
+pub use Rattle.law_kept_images.specs.AcceptedBehind
+pub use Rattle.law_kept_images.specs.LastImage

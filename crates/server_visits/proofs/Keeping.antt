@@ -19,7 +19,7 @@ use Rattle.server_session.specs.Moves.{at_place, keeping, marking, sits}
 use Rattle.server_session.specs.Seats.{inside, answering, KeptImage, Session, SeatState}
 use Rattle.server_session.specs.Server.{journal_image}
 use Rattle.server_session.specs.Visits.{keep, nothing}
-use Rattle.law_protocol_steps.proofs.CellsOut.{out_lies}
+use Rattle.server_visit_ledger.proofs.CellsOut.{out_lies}
 use Rattle.store_image.proofs.CellsShow.{same_bytes}
 use Rattle.server_visits.specs.Images.{AreImageBytes, CellsStand}
 use Rattle.server_session.specs.KeptCell.{KeptCell}

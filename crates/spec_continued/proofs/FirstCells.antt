@@ -1,7 +1,7 @@
 -- A journal without items leads to the first cells.
 use Rattle.std.proofs.Common.{◌≡◌, ℕ, [], refl}
-use Rattle.spec_history.specs.Lists.{Text}
-use Rattle.spec_ledger.specs.Ledger.{ledger_from}
+use Rattle.spec_protocol.specs.Lists.{Text}
+use Rattle.spec_protocol.specs.Ledger.{ledger_from}
 use Rattle.spec_model.specs.Journals.{serial_from}
 use Rattle.spec_model.specs.SystemTables.{first_tables}
 use Rattle.spec_protocol.specs.Cells.{first_cells}

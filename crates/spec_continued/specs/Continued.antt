@@ -9,8 +9,8 @@ use Rattle.spec_model.specs.Journals.{serial}
 use Rattle.spec_model.specs.Keys.{key_places, live_by_key}
 use Rattle.spec_model.specs.Rows.{EventId}
 use Rattle.spec_model.specs.SystemTables.{tables_id, columns_id}
-use Rattle.spec_history.specs.Lists.{Text}
-use Rattle.law_blocks.specs.Ledger.{Ledger, ledger_of}
+use Rattle.spec_protocol.specs.Lists.{Text}
+use Rattle.spec_protocol.specs.Ledger.{Ledger, ledger_of}
 use Rattle.spec_protocol.specs.Cells.{CatalogCell, LedgerCell, TableCell, Index, Cell}
 use Rattle.spec_protocol.specs.Cells as cells
 use Rattle.spec_protocol.specs.Server.{Server}

@@ -2,7 +2,7 @@
 
 ghost use Rattle.std.specs.Prelude.{ℕ, ◌≡◌, []};
 ghost use Rattle.spec_continued.specs.Continued.{continued_cells};
-ghost use Rattle.spec_history.specs.Lists.{Text};
+ghost use Rattle.spec_protocol.specs.Lists.{Text};
 ghost use Rattle.spec_protocol.specs.Cells.{first_cells};
 ghost use Rattle.spec_protocol.specs.Server.{Server};
 

@@ -2,7 +2,7 @@
 use Rattle.std.specs.Prelude.{ℕ, List, [], ◌∷◌, map, length, drop, replicate}
 use Rattle.format_entry.specs.Entry.{entry_bytes}
 use Rattle.format_entry.specs.Record.{record_bytes}
-use Rattle.base_merkle.specs.TreeHash.{tree_hash}
+use Rattle.format_entry.specs.TreeHash.{tree_hash}
 use Rattle.sql_types.specs.declared.entry.BlockRecord.{BlockRecord}
 use Rattle.sql_types.specs.declared.entry.TxEntry.{TxEntry}
 

@@ -2,7 +2,7 @@
 use Rattle.std.specs.Prelude.{ℕ, ◌+◌, ◌==◌, not, Bool, List, [], ◌∷◌, map, length}
 use Rattle.std.specs.List.{filter}
 use Rattle.format_event.specs.Leaf.{event_bytes}
-use Rattle.base_merkle.specs.TreeHash.{tree_hash}
+use Rattle.format_entry.specs.TreeHash.{tree_hash}
 use Rattle.sql_types.specs.declared.entry.TxEntry.{TxEntry}
 use Rattle.sql_types.specs.declared.version.Table.{Table}
 use Rattle.spec_model.specs.Catalog.{Tables}

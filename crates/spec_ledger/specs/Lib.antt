@@ -4,3 +4,4 @@ pub mod Ledger
 pub mod Parts
 pub use Rattle.format_event.specs.Leaf
 pub use Rattle.format_entry.specs.Entry
+pub use Rattle.format_entry.specs.TreeHash

@@ -23,7 +23,7 @@ use Rattle.std.specs.Ordering.{nat_cmp}
 use Rattle.std.specs.declared.cmp.Ordering.{Ordering}
 use Rattle.sql_types.specs.declared.entry.TxEntry.{TxEntry}
 use Rattle.spec_model.specs.Lists.{sorted}
-use Rattle.base_merkle.specs.TreeHash.{tree_hash}
+use Rattle.law_blocks.specs.TreeHash.{tree_hash}
 use Rattle.law_blocks.specs.Ledger as of_journal
 
 -- ---- an id

@@ -48,3 +48,7 @@ pub use Rattle.law_blocks.specs.Entries
 pub use Rattle.law_blocks.specs.Ledger
 pub use Rattle.law_blocks.specs.Entry
 pub use Rattle.law_blocks.specs.Leaf
+pub use Rattle.spec_history.specs.Lists
+pub use Rattle.spec_history.specs.Serial
+pub use Rattle.format_image.specs.Image
+pub use Rattle.format_image.specs.ImageBytes

@@ -18,7 +18,7 @@ use Rattle.spec_model.specs.Keys.{same_key}
 use Rattle.spec_model.specs.Lists.{repeats}
 use Rattle.spec_model.specs.Rows.{Row, values_of}
 use Rattle.spec_model.specs.SystemTables.{tables_columns, columns_columns, tables_def, columns_def}
-use Rattle.law_frame.proofs.Alls.{all_filter}
+use Rattle.law_catalog_rows.proofs.Alls.{all_filter}
 use Rattle.law_catalog_rows.specs.Changes.{changes_are_right, items_follow}
 use Rattle.law_catalog_rows.specs.Differs.{are_rows, table_of, is_encoded}
 use Rattle.law_catalog_rows.specs.IsEncodableDef.{is_proper_name, has_its_history, is_between, are_key_positions, positions_of, is_encodable_column, is_encodable_index, number_repeats, dropped_are_right, is_encodable_def, has_new_names}

@@ -18,13 +18,13 @@ use Rattle.sql_value.specs.Stored.{is_in_range, is_bit, in_bits, number_stored, 
 use Rattle.sql_value.specs.TypeCodes.{type_code, first_parameter, second_parameter}
 use Rattle.sql_value.proofs.Numbers.{cmp_raised}
 use Rattle.sql_scalar.proofs.OrderLaws.{equal}
-use Rattle.format_event.specs.TypedBytes.{IsTyped}
+use Rattle.format_image.specs.TypedBytes.{IsTyped}
 use Rattle.sql_types.specs.declared.image.TableRows.{TableRows}
 use Rattle.sql_types.specs.declared.table.IndexDef.{IndexDef}
 use Rattle.sql_types.specs.declared.table.TableDef.{TableDef}
 use Rattle.sql_types.specs.declared.version.TypedValue.{TypedValue}
 use Rattle.sql_types.specs.declared.version.Version.{Version}
-use Rattle.law_frame.proofs.Alls.{all_map, all_sorted}
+use Rattle.law_catalog_rows.proofs.Alls.{all_map, all_sorted}
 use Rattle.format_image.specs.RowBytes.{IsValue, AreValues, IsBaseRow, AreIndexes, IsTable}
 use Rattle.format_image.specs.Rows.{Stored, stored_at, index_ordinals, index_row, stored_cmp, index_rows}
 use Rattle.spec_verify.specs.Indexes.{same_value, same_row, same_rows, index_holds}

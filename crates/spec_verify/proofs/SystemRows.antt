@@ -21,7 +21,7 @@ use Rattle.spec_model.specs.Keys.{key_cmp, same_key}
 use Rattle.spec_model.specs.Lists.{numbered}
 use Rattle.spec_model.specs.Rows.{Row, value_or_null}
 use Rattle.spec_model.specs.SystemTables.{name_type, tables_columns, columns_columns, history_value, index_row, index_rows}
-use Rattle.law_frame.proofs.Alls.{all_append, all_filter, all_map}
+use Rattle.law_catalog_rows.proofs.Alls.{all_append, all_filter, all_map}
 use Rattle.law_catalog_rows.specs.Encoded.{rows_of_indexes, latest_table_row, latest_column_row, latest_item_rows}
 use Rattle.law_catalog_rows.specs.Latest.{is_latest, latest, without_change, latest_said}
 use Rattle.format_image.specs.Rows.{Stored}

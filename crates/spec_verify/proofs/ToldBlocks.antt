@@ -11,7 +11,7 @@ use Rattle.sql_types.specs.declared.digest.HeldDigest.{HeldDigest}
 use Rattle.sql_types.specs.declared.entry.BlockRecord.{BlockRecord}
 use Rattle.sql_types.specs.declared.image.Image.{Image}
 use Rattle.spec_model.specs.Limits.{max_block}
-use Rattle.spec_ledger.specs.Blocks.{hash_at}
+use Rattle.format_image.specs.Blocks.{hash_at}
 use Rattle.spec_verify.specs.declared.place.Place.TheVariants as at
 use Rattle.spec_verify.specs.Blocks.{digest_holds, digest_fault, hash_before, link_holds, chain_fault, block_holds, block_fault, entries_before, entries_in}
 use Rattle.spec_verify.specs.First.{unless}

@@ -12,7 +12,7 @@ use Rattle.std.specs.declared.cmp.Ordering.TheVariants.{Greater}
 use Rattle.sql_types.specs.declared.entry.TxEntry.{TxEntry}
 use Rattle.sql_types.specs.declared.image.Image.{Image}
 use Rattle.spec_model.specs.Lists.{or_else}
-use Rattle.spec_ledger.specs.Entries.{roots_of}
+use Rattle.format_image.specs.Entries.{roots_of}
 use Rattle.format_image.specs.Tables.{tables_in}
 use Rattle.law_catalog_rows.specs.Least.{least}
 use Rattle.spec_verify.specs.declared.place.Place.{Place}

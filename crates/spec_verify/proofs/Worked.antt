@@ -9,7 +9,7 @@ use Rattle.sql_value.specs.Order.{value_cmp}
 use Rattle.sql_value.specs.Stored.{is_in_range, is_stored}
 use Rattle.sql_value.specs.Text.{utf16_units}
 use Rattle.sql_value.specs.Conversion.{conversion_of}
-use Rattle.format_event.specs.Leaf.{event_bytes}
+use Rattle.format_image.specs.Leaf.{event_bytes}
 use Rattle.format_entry.specs.Entry.{entry_bytes}
 use Rattle.format_entry.specs.Record.{record_bytes}
 use Rattle.spec_model.specs.Catalog.{find_part}
@@ -25,9 +25,9 @@ use Rattle.spec_model.specs.Script.{saves, rolls_back_to, text_step, script_from
 use Rattle.spec_model.specs.SystemTables.{first_tables, table_row, column_rows, index_rows}
 use Rattle.law_catalog_rows.specs.Encoded.{item_rows, latest_table_row, latest_item_rows}
 use Rattle.law_catalog_rows.specs.Differs.{encoding_fault}
-use Rattle.spec_ledger.specs.Entries.{roots_of}
-use Rattle.spec_ledger.specs.Blocks.{no_hash, block_of}
-use Rattle.spec_ledger.specs.Ledger.{ledger_from}
+use Rattle.format_image.specs.Entries.{roots_of}
+use Rattle.format_image.specs.Blocks.{no_hash, block_of}
+use Rattle.format_image.specs.Ledger.{ledger_from}
 use Rattle.format_image.specs.Rows as rows
 use Rattle.format_image.specs.Rows.{index_ordinals, stored_cmp, table_rows}
 use Rattle.format_image.specs.Image.{image_of}

@@ -12,12 +12,12 @@ use Rattle.base_types.specs.SessionName.{is_session_name}
 use Rattle.base_fields.specs.Fields.{u32_field}
 use Rattle.sql_value.specs.Stored.{is_in_range, is_stored}
 use Rattle.sql_value.specs.Text.{utf16_units}
-use Rattle.format_event.specs.TypedBytes.{IsTyped}
+use Rattle.format_image.specs.TypedBytes.{IsTyped}
 use Rattle.spec_model.specs.Create.{table_def}
 use Rattle.spec_model.specs.Events.{events_of}
 use Rattle.spec_model.specs.SystemTables.{name_type, tables_def, columns_def, table_row}
-use Rattle.spec_ledger.specs.Blocks.{block_of}
-use Rattle.spec_ledger.specs.Entries.{roots_of}
+use Rattle.format_image.specs.Blocks.{block_of}
+use Rattle.format_image.specs.Entries.{roots_of}
 use Rattle.format_image.specs.DefBytes.{IsDef}
 use Rattle.format_image.specs.ImageBytes.{image_bytes, image_bytes_1, IsPlaceless, IsImage, NothingGone}
 use Rattle.format_image.specs.RowBytes.{IsTable}

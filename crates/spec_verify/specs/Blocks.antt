@@ -9,7 +9,7 @@ use Rattle.sql_types.specs.declared.entry.BlockRecord.{BlockRecord}
 use Rattle.sql_types.specs.declared.entry.TxEntry.{TxEntry}
 use Rattle.sql_types.specs.declared.image.Image.{Image}
 use Rattle.spec_model.specs.Limits.{max_block}
-use Rattle.spec_ledger.specs.Blocks.{no_hash, hash_at}
+use Rattle.format_image.specs.Blocks.{no_hash, hash_at}
 use Rattle.spec_verify.specs.declared.place.Place.{Place}
 use Rattle.spec_verify.specs.declared.place.Place.TheVariants as at
 use Rattle.spec_verify.specs.First.{unless, first}

@@ -1,7 +1,7 @@
 -- What a digest of block b covers of an image: the entries of blocks 0 to b, with their events.
 use Rattle.std.specs.Prelude.{ℕ, ◌+◌, ◌≡◌, List, ◌++◌, map, take}
 use Rattle.std.specs.List.{AllByRecursion, filter}
-use Rattle.format_event.specs.Leaf.{without_nulls}
+use Rattle.format_image.specs.Leaf.{without_nulls}
 use Rattle.sql_types.specs.declared.entry.BlockRecord.{BlockRecord}
 use Rattle.sql_types.specs.declared.entry.TxEntry.{TxEntry}
 use Rattle.sql_types.specs.declared.event.Event.{Event}
@@ -9,7 +9,7 @@ use Rattle.sql_types.specs.declared.image.Image.{Image}
 use Rattle.sql_types.specs.declared.version.Table.{Table}
 use Rattle.spec_model.specs.Catalog.{Tables}
 use Rattle.spec_model.specs.Events.{events_of}
-use Rattle.spec_ledger.specs.Entries.{has_events}
+use Rattle.format_image.specs.Entries.{has_events}
 use Rattle.format_image.specs.Tables.{tables_in}
 use Rattle.spec_verify.specs.Blocks.{entries_before}
 

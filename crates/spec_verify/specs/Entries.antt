@@ -11,7 +11,7 @@ use Rattle.sql_types.specs.declared.version.Table.{Table}
 use Rattle.spec_model.specs.Lists.{or_else}
 use Rattle.spec_model.specs.Rows.{EventId, event_cmp}
 use Rattle.spec_model.specs.Events.{version_events, all_events}
-use Rattle.spec_ledger.specs.Entries.{roots_of}
+use Rattle.format_image.specs.Entries.{roots_of}
 use Rattle.format_image.specs.Tables.{tables_in}
 use Rattle.spec_verify.specs.declared.place.Place.{Place}
 use Rattle.spec_verify.specs.declared.place.Place.TheVariants as at

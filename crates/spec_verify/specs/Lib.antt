@@ -14,3 +14,5 @@ pub mod Sentences
 pub mod Told
 pub mod Verdict
 pub mod Versions
+pub use Rattle.law_catalog_rows.specs.Least
+pub use Rattle.format_image.specs.ImageBytes

@@ -21,8 +21,8 @@ use Rattle.spec_model.specs.Rows.{Row, EventId, stored_row}
 use Rattle.spec_model.specs.Create.{with_index}
 use Rattle.spec_model.specs.SystemTables.{a_column, tables_columns, columns_columns, table_row, column_row, index_row}
 use Rattle.test_samples.specs.Samples.{create_t, insert, index_on, num, def_t, typed, version}
-use Rattle.spec_ledger.specs.Blocks.{no_hash, block_of, record_hash, hash_at}
-use Rattle.spec_ledger.specs.Entries.{entry_of, placed}
+use Rattle.format_image.specs.Blocks.{no_hash, block_of, record_hash, hash_at}
+use Rattle.format_image.specs.Entries.{entry_of, placed}
 use Rattle.format_image.specs.Rows.{Stored}
 use Rattle.format_image.specs.Tables.{tables_with}
 use Rattle.spec_model.specs.SystemTables.{tables_def, columns_def}

@@ -19,8 +19,8 @@ use Rattle.sql_types.specs.declared.version.Version.{Version}
 use Rattle.spec_model.specs.Events.{all_events}
 use Rattle.spec_model.specs.Limits.{max_block}
 use Rattle.spec_model.specs.SystemTables.{columns_id}
-use Rattle.spec_ledger.specs.Blocks.{hash_at}
-use Rattle.spec_ledger.specs.Entries.{roots_of}
+use Rattle.format_image.specs.Blocks.{hash_at}
+use Rattle.format_image.specs.Entries.{roots_of}
 use Rattle.format_image.specs.Tables.{tables_in, defs_in}
 use Rattle.law_catalog_rows.specs.Differs.{is_encoded, all_ids}
 use Rattle.spec_verify.specs.declared.place.Place.{Place}

@@ -7,6 +7,7 @@ mod place;
 mod samples;
 mod sentences;
 
+pub use format_image::Image;
 pub use groups::{firsts_of_groups_merge, leasts_of_groups_merge};
 pub use laws::{
     bytes_are_judged_by_their_image, entries_and_their_events_are_covered,

@@ -11,7 +11,7 @@ ghost use Rattle.spec_verify.specs.declared.place.Verdict.TheVariants.{Yes, No};
 ghost use Rattle.spec_verify.specs.Bytes.{verdict_of};
 ghost use Rattle.spec_verify.specs.Covered.{covered_of};
 ghost use Rattle.spec_verify.specs.Verdict.{image_verdict};
-ghost use Rattle.spec_ledger.specs.Blocks.{no_hash, block_of};
+ghost use Rattle.format_image.specs.Blocks.{no_hash, block_of};
 ghost use Rattle.spec_verify.specs.Samples.{summed, statements, items, honest, digest_of};
 ghost use Rattle.spec_verify.specs.Samples.{two_blocks, one_pending, ids_fall, older_block, with_blocks};
 ghost use Rattle.spec_verify.specs.Samples.{with_rows_of, index_left, key_twice, ended_early, misnamed, id_again};

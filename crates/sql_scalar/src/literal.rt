@@ -8,7 +8,7 @@ ghost use Rattle.sql_value.specs.Literal as spec;
 ghost use Rattle.sql_value.specs.Literal.{unquoted_from};
 ghost use Rattle.sql_scalar.specs.Pieces.{IsPiece};
 
-use base_types::{Blob, Text};
+use sql_value::{Blob, Text};
 use hex::FromHexError;
 use sql_value::{LitErr, Value};
 use std::alloc::Global;

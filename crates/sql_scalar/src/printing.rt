@@ -5,7 +5,7 @@ ghost use Rattle.hex.specs.Hex.{encode_upper, upper_digits};
 ghost use Rattle.sql_value.specs.Printed as spec;
 
 use crate::day::{LAST_DAY, civil_of, date_digits};
-use base_types::Memory;
+use sql_value::Memory;
 use itoa::Buffer;
 use sql_value::Value;
 

@@ -2,7 +2,7 @@
 
 ghost use Rattle.std.specs.Prelude.{◌≡◌, ◌++◌, ◌∷◌, [], IfOk, OnOk};
 ghost use Rattle.spec_model.specs.Runs.{Rising};
-ghost use Rattle.spec_continued.specs.Continued.{catalog_with};
+ghost use Rattle.store_table.specs.Continued.{catalog_with};
 ghost use Rattle.store_catalog.specs.Definitions.{AreFormed};
 ghost use Rattle.store_catalog.specs.GoingOn.{HaveNewNames};
 ghost use Rattle.store_catalog.specs.Names.{HasNewNames};

@@ -6,3 +6,4 @@ pub mod Orders
 pub mod Stopping
 pub mod Stored
 pub mod Undoing
+pub use Rattle.spec_continued.specs.Continued

@@ -5,8 +5,8 @@ use Rattle.std.specs.List.{list_all}
 use Rattle.std.proofs.lemmas.List.{take_all}
 use Rattle.base_merkle.specs.declared.frontier.Frontier.{Frontier}
 use Rattle.base_merkle.specs.Holds.{Holds}
-use Rattle.spec_history.specs.Lists.{Each, In}
-use Rattle.spec_history.specs.Serial.{Differ}
+use Rattle.spec_protocol.specs.Lists.{Each, In}
+use Rattle.spec_protocol.specs.Serial.{Differ}
 use Rattle.spec_protocol.specs.LedgerVisits.{is_empty}
 use Rattle.spec_protocol.specs.Seats.{Tree}
 use Rattle.store_tx.specs.Leaves.{leaves_in}

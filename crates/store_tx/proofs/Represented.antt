@@ -4,7 +4,7 @@ use Rattle.std.proofs.lemmas.Bool.{cases_eq}
 use Rattle.std.proofs.lemmas.List.{length-take-le, length-map}
 use Rattle.base_merkle.specs.declared.frontier.Frontier.{Frontier}
 use Rattle.base_merkle.specs.Holds.{MayAddLeaf}
-use Rattle.spec_history.specs.Serial.{Differ}
+use Rattle.spec_protocol.specs.Serial.{Differ}
 use Rattle.spec_model.specs.Limits.{max_savepoints}
 use Rattle.spec_protocol.specs.Moves.{noting, with_undo_state}
 use Rattle.spec_protocol.specs.Seats.{OpenSavepoint, OpenTransaction}

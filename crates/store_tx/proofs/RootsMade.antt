@@ -9,8 +9,8 @@ use Rattle.base_merkle.specs.declared.frontier.Frontier.{Frontier}
 use Rattle.base_merkle.specs.Holds.{Holds}
 use Rattle.base_merkle.specs.TreeHash.{tree_hash}
 use Rattle.spec_model.specs.Lists.{inserted}
-use Rattle.spec_history.specs.Lists.{Each, In}
-use Rattle.spec_history.specs.Serial.{Differ}
+use Rattle.spec_protocol.specs.Lists.{Each, In}
+use Rattle.spec_protocol.specs.Serial.{Differ}
 use Rattle.spec_protocol.specs.LedgerVisits.{is_empty, with_leaves}
 use Rattle.spec_protocol.specs.Seats.{Tree}
 use Rattle.store_tx.specs.Leaves.{leaves_in}

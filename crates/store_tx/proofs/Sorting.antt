@@ -11,8 +11,8 @@ use Rattle.std.specs.Ordering.{nat_cmp, is_gt}
 use Rattle.std.specs.Cmp.{nat_cmp_is}
 use Rattle.std.specs.declared.cmp.Ordering.TheVariants.{Less, Equal, Greater}
 use Rattle.spec_model.specs.Lists.{inserted, sorted}
-use Rattle.spec_history.specs.Lists.{Each, In}
-use Rattle.spec_history.specs.Serial.{Differ}
+use Rattle.spec_protocol.specs.Lists.{Each, In}
+use Rattle.spec_protocol.specs.Serial.{Differ}
 
 pub each_in : {A : Type 0} (P : A → Type 0) (xs : List A) (x : A) → Each P xs → In x xs → P x
 each_in P [] x e i = absurd i

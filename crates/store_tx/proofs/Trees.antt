@@ -9,8 +9,8 @@ use Rattle.std.proofs.lemmas.List.Quantifiers.{position-Some}
 use Rattle.base_merkle.specs.declared.frontier.Frontier.{Frontier}
 use Rattle.base_merkle.specs.Holds.{Holds, MayAddLeaf}
 use Rattle.spec_model.specs.Lists.{or_else}
-use Rattle.spec_history.specs.Lists.{Each}
-use Rattle.spec_history.specs.Serial.{Differ}
+use Rattle.spec_protocol.specs.Lists.{Each}
+use Rattle.spec_protocol.specs.Serial.{Differ}
 use Rattle.store_tx.specs.Trees.{tree_of, tables_of, IsTree}
 use Rattle.store_tx.specs.declared.tree.TableTree.{TableTree}
 

@@ -1,7 +1,7 @@
 -- Which transaction a context is of.
 use Rattle.std.specs.Prelude.{ℕ, ◌≡◌, ◌≤◌, ◌<◌, ◌+◌, ◌^◌, ◌++◌, List, [], ◌∷◌, length, Some}
 use Rattle.base_merkle.specs.declared.frontier.Frontier.{Frontier}
-use Rattle.spec_history.specs.Serial.{Differ}
+use Rattle.spec_protocol.specs.Serial.{Differ}
 use Rattle.spec_model.specs.Limits.{max_savepoints}
 use Rattle.spec_protocol.specs.Seats.{OpenSavepoint, OpenTransaction}
 use Rattle.store_tx.specs.Leaves.{leaves_in}

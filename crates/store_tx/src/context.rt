@@ -3,7 +3,7 @@
 ghost use Rattle.std.specs.Prelude.{◌≡◌, ◌<◌, ◌+◌, ◌∷◌, ◌⊎◌, [], List, ℕ, length, map};
 ghost use Rattle.std.specs.Prelude.{Ok, Err, IfOk, OnOk, OnErr};
 ghost use Rattle.sql_value.specs.declared.refusal.Refusal.TheVariants.{NoSuchSavepoint, LimitExceeded, NoMemory};
-ghost use Rattle.spec_history.specs.Serial.{Differ};
+ghost use Rattle.spec_protocol.specs.Serial.{Differ};
 ghost use Rattle.spec_model.specs.Limits.{max_savepoints};
 ghost use Rattle.spec_protocol.specs.Answering.{savepoints_from};
 ghost use Rattle.spec_protocol.specs.LedgerVisits.{is_read_only};

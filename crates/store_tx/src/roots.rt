@@ -3,7 +3,7 @@
 ghost use Rattle.std.specs.Prelude.{◌≡◌, ◌≤◌, nat_le, length, map, IfOk, OnOk, List, ℕ};
 ghost use Rattle.std.specs.List.{list_all, position, position_or_len};
 ghost use Rattle.base_merkle.specs.Holds.{Holds};
-ghost use Rattle.spec_history.specs.Serial.{Differ};
+ghost use Rattle.spec_protocol.specs.Serial.{Differ};
 ghost use Rattle.spec_model.specs.Lists.{inserted};
 ghost use Rattle.spec_protocol.specs.LedgerVisits.{is_empty};
 ghost use Rattle.spec_protocol.specs.Seats.{Tree};

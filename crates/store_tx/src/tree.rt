@@ -5,7 +5,7 @@ ghost use Rattle.std.specs.Prelude.{IfOk, OnOk, List, ℕ, Some, length, slice_g
 ghost use Rattle.std.specs.List.{position};
 ghost use Rattle.std.specs.Option.{option_copied};
 ghost use Rattle.base_merkle.specs.declared.frontier.Frontier.{Frontier as SpecFrontier};
-ghost use Rattle.spec_history.specs.Serial.{Differ};
+ghost use Rattle.spec_protocol.specs.Serial.{Differ};
 ghost use Rattle.base_merkle.specs.Holds.{MayAddLeaf, Holds};
 ghost use Rattle.store_tx.specs.Trees.{IsTree, IsMark, mark_of, tables_of, tree_of};
 

@@ -1,5 +1,5 @@
 use Rattle.std.proofs.Common.{List, ℕ, subst, sym}
-use Rattle.server_engine.specs.Starts.{Starts}
+use Rattle.server_step.specs.Starts.{Starts}
 use Rattle.cli_commands.proofs.start.start_of.Goals as goal
 
 pub returns : goal.returns

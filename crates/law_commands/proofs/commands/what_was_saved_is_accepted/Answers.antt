@@ -4,7 +4,7 @@ use Rattle.spec_history.specs.Inputs.{sessions_in}
 use Rattle.spec_syntax.specs.Text.{statement_of}
 use Rattle.law_headline.specs.Before.{InOneOrder, InOrderOfLines}
 use Rattle.law_headline.specs.BeforeBehind.{InOneOrderBehind, InOrderOfLinesBehind}
-use Rattle.server_past.specs.PastCells.{past_seen}
+use Rattle.cli_commands.specs.PastCells.{past_seen}
 use Rattle.cli_commands.specs.Status.TheVariants.{Done}
 use Rattle.law_commands.specs.Runs.{input_of, lines_of}
 use Rattle.law_commands.proofs.Compared.{extract_says}

@@ -2,7 +2,7 @@ use Rattle.std.proofs.Common.{None, Some}
 use Rattle.spec_history.specs.Inputs.{sessions_in}
 use Rattle.spec_syntax.specs.Text.{statement_of}
 use Rattle.format_lines.specs.Sessions.{sessions_of}
-use Rattle.server_past.specs.PastCells.{past_seen}
+use Rattle.cli_commands.specs.PastCells.{past_seen}
 use Rattle.law_commands.specs.Runs.{input_of, lines_of}
 use Rattle.law_commands.proofs.Fits.{issued, of_run, of_run_behind, some_meaning, where_told}
 use Rattle.law_commands.proofs.digests.digests_that_were_put_can_be_read.Goals as goal

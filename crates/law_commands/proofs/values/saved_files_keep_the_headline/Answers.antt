@@ -6,14 +6,14 @@ use Rattle.spec_syntax.specs.Text.{statement_of}
 use Rattle.spec_protocol.specs.Seats.{KeptImage}
 use Rattle.format_lines.specs.Sessions.{sessions_of}
 use Rattle.spec_history.specs.Inputs.{sessions_in}
-use Rattle.law_sequential.specs.OutcomeBehind.{RunAgreesBehind}
+use Rattle.law_headline.specs.OutcomeBehind.{RunAgreesBehind}
 use Rattle.law_headline.specs.LastImage.{last_image_bytes}
 use Rattle.law_headline.specs.SessionOutput.{RunAgrees}
 use Rattle.law_headline.specs.Before.{InOneOrder, InOrderOfLines}
 use Rattle.law_headline.specs.BeforeBehind.{InOneOrderBehind, InOrderOfLinesBehind}
 use Rattle.law_headline.specs.Headline.{Headline}
 use Rattle.law_headline.specs.HeadlineBehind.{HeadlineBehind}
-use Rattle.server_past.specs.PastCells.{past_seen}
+use Rattle.cli_commands.specs.PastCells.{past_seen}
 use Rattle.law_commands.specs.Runs.{input_of, lines_of}
 use Rattle.law_commands.proofs.Put.{moved}
 use Rattle.law_commands.proofs.values.saved_files_keep_the_headline.Goals as goal

@@ -1,7 +1,7 @@
 use Rattle.std.proofs.Common.{[], ◌++◌}
 use Rattle.spec_protocol.specs.Contents.{contents}
 use Rattle.law_protocol.proofs.Beginning.{begins, none_asked, none_requested}
-use Rattle.law_protocol_end.proofs.JoinsStand.{back, join_stands}
+use Rattle.law_protocol_ledger.proofs.JoinsStand.{back, join_stands}
 use Rattle.law_protocol_tables.proofs.KeepsAsked.{still_asked_for}
 use Rattle.law_protocol.proofs.KeepsRequested.{same_requested, split_requested}
 use Rattle.law_protocol_ledger.proofs.Splits.{splits_stand}

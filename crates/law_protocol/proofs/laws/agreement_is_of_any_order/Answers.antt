@@ -1,5 +1,5 @@
 use Rattle.law_protocol.proofs.InSessionOrder.{in_order_of}
-use Rattle.law_protocol_end.proofs.Reorders.{reordered_agrees}
+use Rattle.law_protocol_ledger.proofs.Reorders.{reordered_agrees}
 use Rattle.law_protocol.proofs.laws.agreement_is_of_any_order.Goals as goal
 
 pub returns : goal.returns

@@ -1,4 +1,4 @@
-use Rattle.law_protocol_end.proofs.TheEnd.{input, X, are_written, agrees_then}
+use Rattle.law_protocol_ledger.proofs.TheEnd.{input, X, are_written, agrees_then}
 use Rattle.law_protocol.proofs.laws.transcripts_agree_at_the_end.Goals as goal
 
 pub returns : goal.returns

@@ -1,4 +1,4 @@
-use Rattle.law_protocol_end.proofs.BegunNames.{in_order}
+use Rattle.law_protocol_ledger.proofs.BegunNames.{in_order}
 use Rattle.law_protocol.proofs.laws.transcripts_are_in_the_order_of_their_beginnings.Goals as goal
 
 pub returns : goal.returns

@@ -1,4 +1,4 @@
-use Rattle.law_protocol_end.proofs.RanFirst.{ran_first}
+use Rattle.law_protocol_ledger.proofs.RanFirst.{ran_first}
 use Rattle.law_protocol.proofs.laws.what_seats_knew_tells_setup.Goals as goal
 
 pub returns : goal.returns

@@ -1,6 +1,6 @@
 use Rattle.std.proofs.Common.{List, sym, subst}
 use Rattle.format_sections.specs.RunSections.{run_sections_view}
-use Rattle.server_session.specs.KeptCell.{KeptCell}
+use Rattle.server_ending.specs.KeptCell.{KeptCell}
 use Rattle.law_concurrent.proofs.Comes.{came_to_first}
 use Rattle.server_result.specs.Moments.{IsMoment, said_with}
 use Rattle.server_thread.specs.Starts.{Starts, past_in}

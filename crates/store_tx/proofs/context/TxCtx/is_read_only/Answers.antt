@@ -1,5 +1,5 @@
 use Rattle.std.proofs.Common.{subst, sym}
-use Rattle.spec_history.specs.Serial.{Differ}
+use Rattle.spec_protocol.specs.Serial.{Differ}
 use Rattle.store_tx.specs.Trees.{TreesHold, tables_of}
 use Rattle.store_tx.proofs.context.TxCtx.is_read_only.Goals as goal
 
