@@ -1,4 +1,4 @@
-pub mod AnyKinds
-pub mod Contradicted
-pub mod Given
-pub mod Held
+mod AnyKinds
+mod Contradicted
+mod Given
+mod Held

@@ -1,8 +1,8 @@
 mod Between
-pub mod DefIs
+mod DefIs
 mod Found
-pub mod Kept
+mod Kept
 mod KeyOrder
-pub mod Opened
+mod Opened
 mod TellsOn
 mod Users

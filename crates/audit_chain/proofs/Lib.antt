@@ -1,3 +1,3 @@
 pub mod Continuing
-pub mod Decided
-pub mod Histories
+mod Decided
+mod Histories

@@ -1,5 +1,5 @@
-pub mod LastRows
-pub mod EntryPositions
+mod LastRows
+mod EntryPositions
 pub mod Folds
 pub mod Runs
 pub mod Searches

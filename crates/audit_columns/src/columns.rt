@@ -48,7 +48,7 @@ pub fn has_columns(columns: &[ColumnDef], row: &[Option<TypedValue>]) -> bool
 }
 
 /// Whether the row has NULL only where the column may be NULL.
-pub fn respects_not_null(columns: &[ColumnDef], row: &[Option<TypedValue>]) -> bool
+pub(crate) fn respects_not_null(columns: &[ColumnDef], row: &[Option<TypedValue>]) -> bool
     ensures { result ≡ spec.respects_not_null columns.now row.now }
 {
     let mut columns = columns;

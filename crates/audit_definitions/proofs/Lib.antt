@@ -1,9 +1,9 @@
-pub mod Counts
-pub mod FirstValues
-pub mod LatestDefs
-pub mod LatestRows
-pub mod RuleGroups
-pub mod Encoded
+mod Counts
+mod FirstValues
+mod LatestDefs
+mod LatestRows
+mod RuleGroups
+mod Encoded
 pub mod Verdicts
 pub mod Walks
-pub mod ZeroAt
+mod ZeroAt

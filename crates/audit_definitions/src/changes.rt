@@ -17,7 +17,7 @@ use std::alloc::Global;
 
 /// Whether one row of the table and each row of an index has change 0, and the other changes are 1, 2 and so on,
 /// each once. Sorts the changes once.
-pub fn changes_are_right(
+pub(crate) fn changes_are_right(
     alloc: Global,
     tables: &[&Version],
     items: &[&Version],
@@ -111,7 +111,7 @@ fn are_indexes_first(items: &[&Version]) -> bool
 }
 
 /// Whether what each of the latest rows says follows from the rows before it about the same item.
-pub fn items_follow(items: &[&Version], latest: &[&Version]) -> bool
+pub(crate) fn items_follow(items: &[&Version], latest: &[&Version]) -> bool
     ensures { result ≡ list_all (spec.follows (rows_seen items.now)) (rows_seen latest.now) }
 {
     for row in latest {

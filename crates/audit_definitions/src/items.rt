@@ -224,7 +224,7 @@ fn latest_table_row(def: &TableDef) -> [ExpectedValue<'_>; 6]
 }
 
 /// Whether there is one row, which says the definition.
-pub fn has_table_row(rows: &[&Version], def: &TableDef) -> bool
+pub(crate) fn has_table_row(rows: &[&Version], def: &TableDef) -> bool
     ensures { result ≡ are_said 0 (rows_seen rows.now) (encoded.latest_table_row def.now ∷ []) }
 {
     rows.len() == 1 && is_said(rows, 0, &latest_table_row(def))
@@ -396,7 +396,7 @@ fn are_so_many(count: usize, def: &TableDef) -> bool
 
 /// Whether the rows say the columns and the indexes of the definition, and no more.
 #[tactic(auto, unfolding(law_catalog_rows::specs::Encoded::latest_item_rows))]
-pub fn has_item_rows(rows: &[&Version], def: &TableDef) -> bool
+pub(crate) fn has_item_rows(rows: &[&Version], def: &TableDef) -> bool
     ensures { result ≡ are_said 1 (rows_seen rows.now) (latest_item_rows def.now) }
 {
     are_so_many(rows.len(), def) && has_column_rows(rows, def) && has_index_rows(rows, def)

@@ -14,7 +14,10 @@ use std::alloc::Global;
 use std::cmp::Ordering;
 
 /// The rows of the table of tables that count: for each table the one with the greatest change.
-pub fn latest_table_rows(alloc: Global, versions: &[Version]) -> Result<Vec<&Version>, Memory>
+pub(crate) fn latest_table_rows(
+    alloc: Global,
+    versions: &[Version],
+) -> Result<Vec<&Version>, Memory>
     ensures { IfOk result (λ latest. rows_seen latest.items ≡ latest_of 0 (rows_in versions.now)) }
 {
     let rows = all_of(alloc, versions)?;
@@ -23,7 +26,7 @@ pub fn latest_table_rows(alloc: Global, versions: &[Version]) -> Result<Vec<&Ver
 
 /// Those of the rows that count, where the number at this place says what each is about, and the number behind it
 /// is its change. Sorts them once.
-pub fn latest_rows<'a>(
+pub(crate) fn latest_rows<'a>(
     alloc: Global,
     place: u8,
     rows: &[&'a Version],
@@ -76,7 +79,7 @@ fn thing_of(place: u8, row: &Version) -> i128
 }
 
 /// The change of the row, which stands behind what it is about.
-pub fn change_of(place: u8, row: &Version) -> i128
+pub(crate) fn change_of(place: u8, row: &Version) -> i128
     ensures { result ≡ spec.change_of place (values_of row.now) }
 {
     number_at(row, usize::from(place) + 1)

@@ -16,7 +16,7 @@ use sql_types::{IndexDef, TableDef, TypedValue, Version};
 use sql_value::{ColumnDef, TableKind, Value};
 
 /// Whether the bytes are a name: 1 to 128 of them, from a blank to `~` without the brackets.
-pub fn is_proper_name(name: &[u8]) -> bool
+pub(crate) fn is_proper_name(name: &[u8]) -> bool
     ensures { result ≡ spec.is_proper_name name.now }
 {
     !name.is_empty() && name.len() <= 128 && are_name_bytes(name)
@@ -35,7 +35,7 @@ fn is_name_byte(b: u8) -> bool
 }
 
 /// Whether a table of this kind may have a history of this name: an append-only one has none.
-pub fn has_its_history(kind: TableKind, history: &[u8]) -> bool
+pub(crate) fn has_its_history(kind: TableKind, history: &[u8]) -> bool
     ensures { result ≡ spec.has_its_history kind history.now }
 {
     match kind {
@@ -48,7 +48,7 @@ pub fn has_its_history(kind: TableKind, history: &[u8]) -> bool
 const ADDED: &str = "ledger_";
 
 /// Whether the name begins as those of the columns that the ledger adds.
-pub fn is_ledger_name(name: &Name) -> bool
+pub(crate) fn is_ledger_name(name: &Name) -> bool
     ensures { result ≡ create.is_ledger_name name.now }
 {
     let bytes = name.bytes();
@@ -64,7 +64,7 @@ fn is_given(name: &Name) -> bool
 }
 
 /// Whether two of the names of a table are one.
-pub fn table_names_repeat(def: &TableDef) -> bool
+pub(crate) fn table_names_repeat(def: &TableDef) -> bool
     ensures { result ≡ repeats (create.table_names def.now) }
 {
     let history = is_given(&def.history);
@@ -75,7 +75,7 @@ pub fn table_names_repeat(def: &TableDef) -> bool
 }
 
 /// Whether two columns have one name.
-pub fn column_names_repeat(columns: &[ColumnDef]) -> bool
+pub(crate) fn column_names_repeat(columns: &[ColumnDef]) -> bool
     ensures { result ≡ repeats (create.names_of columns.now) }
 {
     for at in 0..columns.len() {
@@ -98,7 +98,7 @@ fn has_column(columns: &[ColumnDef], name: &Name) -> bool
 }
 
 /// Whether two indexes have one name.
-pub fn index_names_repeat(indexes: &[IndexDef]) -> bool
+pub(crate) fn index_names_repeat(indexes: &[IndexDef]) -> bool
     ensures { result ≡ repeats (map (λ i. i.name) indexes.now) }
 {
     for at in 0..indexes.len() {
@@ -122,7 +122,7 @@ fn has_index(indexes: &[IndexDef], name: &Name) -> bool
 
 /// Whether no name of the table is one of a table of the system,
 /// or stands in one of these rows with a lower id.
-pub fn has_new_names(rows: &[&Version], def: &TableDef) -> bool
+pub(crate) fn has_new_names(rows: &[&Version], def: &TableDef) -> bool
     ensures { result ≡ spec.has_new_names (rows_seen rows.now) def.now }
 {
     !has_system_name(def) && !has_older_name(rows, def)

@@ -16,7 +16,7 @@ use sql_value::ColumnDef;
 use std::alloc::Global;
 
 /// Whether the definition keeps to the rules by itself.
-pub fn is_encodable_def(alloc: Global, def: &TableDef) -> Result<bool, Memory>
+pub(crate) fn is_encodable_def(alloc: Global, def: &TableDef) -> Result<bool, Memory>
     ensures { IfOk result (λ may. may ≡ spec.is_encodable_def def.now) }
 {
     let columns = def.columns.as_slice();
@@ -90,7 +90,7 @@ fn are_without_key(dropped: &[u16], columns: &[ColumnDef]) -> bool
 }
 
 /// Whether the ordinal of the column at this place, counted from 0, is one of these.
-pub fn has_ordinal(ordinals: &[u16], place: usize) -> bool
+pub(crate) fn has_ordinal(ordinals: &[u16], place: usize) -> bool
     ensures { result ≡ is_among ordinals.now (place + 1) }
 {
     ordinals

@@ -18,8 +18,7 @@ use crate::latest_rows::{latest_rows, latest_table_rows};
 use crate::names::has_new_names;
 use crate::rules::is_encodable_def;
 use base_types::{Memory, TableId};
-use spec_verify::Image;
-use spec_verify::Place;
+use spec_verify::{Image, Place};
 use sql_types::{TableDef, Version};
 use std::alloc::Global;
 

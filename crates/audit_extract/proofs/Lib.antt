@@ -1,13 +1,13 @@
-pub mod Accepted
+mod Accepted
 pub mod Agreeing
 pub mod Collisions
-pub mod Covering
+mod Covering
 pub mod EachDigest
-pub mod Groups
+mod Groups
 pub mod Halves
 pub mod Heads
 pub mod ImageLeaves
-pub mod Linked
+mod Linked
 pub mod Lists
 mod Nodes
 pub mod Parted

@@ -1,9 +1,9 @@
 pub mod Chains
 pub mod Decided
-pub mod Finding
+mod Finding
 pub mod Found
 pub mod Imaged
 pub mod Made
-pub mod SameRecords
+mod SameRecords
 pub mod Spelled
-pub mod Strings
+mod Strings

@@ -1,4 +1,4 @@
-pub mod Onward
-pub mod Roots
-pub mod Rules
-pub mod Steps
+mod Onward
+mod Roots
+mod Rules
+mod Steps

@@ -1,17 +1,17 @@
-pub mod EntryRoots
-pub mod EventIds
+mod EntryRoots
+mod EventIds
 pub mod FirstParts
-pub mod Grouped
-pub mod Hashed
-pub mod IdsAt
-pub mod InRows
-pub mod LeafOrder
-pub mod LeftParts
+mod Grouped
+mod Hashed
+mod IdsAt
+mod InRows
+mod LeafOrder
+mod LeftParts
 pub mod MergedFaults
-pub mod Owned
+mod Owned
 pub mod Parts
-pub mod TableFaults
-pub mod TableRoots
+mod TableFaults
+mod TableRoots
 pub mod Tables
-pub mod Woven
+mod Woven
 pub mod WrongRoots

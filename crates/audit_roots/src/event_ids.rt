@@ -15,7 +15,7 @@ use std::alloc::Global;
 
 /// The ids of the starts and ends of all versions of these tables, by the transaction and then by number.
 /// Takes the time of sorting them. The only error is want of memory.
-pub fn sorted_ids(alloc: Global, tables: &[ImageTable]) -> Result<Vec<EventId>, Memory>
+pub(crate) fn sorted_ids(alloc: Global, tables: &[ImageTable]) -> Result<Vec<EventId>, Memory>
     ensures { IfOk result (λ ids. AreIds (map table_of tables.now) ids.items) }
 {
     let mut ids = Vec::new(alloc);
@@ -69,7 +69,7 @@ fn sort_ids(ids: &mut Vec<EventId>) -> Result<(), Memory>
 }
 
 /// Those of a transaction, which stand together. Takes two ordered searches.
-pub fn ids_of(ids: &[EventId], tx: TxId) -> &[EventId]
+pub(crate) fn ids_of(ids: &[EventId], tx: TxId) -> &[EventId]
     requires { IsNonDecreasingBy tx_in ids.now }
     ensures { result.now ≡ filter (λ e. tx_in e == tx) ids.now }
 {
@@ -81,7 +81,7 @@ pub fn ids_of(ids: &[EventId], tx: TxId) -> &[EventId]
 }
 
 /// Their numbers, in place of those that were there.
-pub fn put_numbers(ids: &[EventId], numbers: &mut Vec<u64>) -> Result<(), Memory>
+pub(crate) fn put_numbers(ids: &[EventId], numbers: &mut Vec<u64>) -> Result<(), Memory>
     ensures { OnOk result (numbers.new.items ≡ map number_in ids.now) }
 {
     numbers.clear();

@@ -100,7 +100,7 @@ fn root_in_group<H: Hash32>(
 
 /// The place of the first of so many entries, from the one at place `from` on, whose roots, but for those of
 /// other tables, differ from the roots over its own marks; and the least table in which they do.
-pub fn wrong_root<H: Hash32>(
+pub(crate) fn wrong_root<H: Hash32>(
     alloc: Global,
     hasher: H,
     entries: &[TxEntry],
@@ -169,7 +169,7 @@ fn least_in_tables(tables: &[ImageTable], a: &[TableRoot], b: &[TableRoot]) -> O
 }
 
 /// Whether one of the tables has this id.
-pub fn is_shown(tables: &[ImageTable], id: TableId) -> bool
+pub(crate) fn is_shown(tables: &[ImageTable], id: TableId) -> bool
     ensures { result ≡ told.is_shown tables.now id }
 {
     tables.iter().any(|table| table.def.id == id)

@@ -65,7 +65,11 @@ const TOGETHER: usize = 1024;
 
 /// The hashes of the leaves, in their order. The only error is want of memory.
 #[tactic(auto, using(crate::proofs::Hashed::hashes_next))]
-pub fn leaf_hashes<H: Hash32>(alloc: Global, hasher: H, marks: &[Mark]) -> Result<Vec<Hash>, Memory>
+pub(crate) fn leaf_hashes<H: Hash32>(
+    alloc: Global,
+    hasher: H,
+    marks: &[Mark],
+) -> Result<Vec<Hash>, Memory>
     requires { All HasValues marks.now }
     ensures { IfOk result (λ hashes. hashes.items ≡ map (leaf_hash (H.digest hasher)) marks.now) }
 {
@@ -96,7 +100,10 @@ fn part_from<'m, 'a>(marks: &'m [Mark<'a>], from: usize) -> &'m [Mark<'a>]
 }
 
 /// So many marks, and those behind them.
-pub fn parts_at<'m, 'a>(marks: &'m [Mark<'a>], front: usize) -> (&'m [Mark<'a>], &'m [Mark<'a>])
+pub(crate) fn parts_at<'m, 'a>(
+    marks: &'m [Mark<'a>],
+    front: usize,
+) -> (&'m [Mark<'a>], &'m [Mark<'a>])
     requires within { front ≤ length marks.now }
     requires values { All HasValues marks.now }
     ensures parts { marks.now ≡ result.0.now ++ result.1.now }

@@ -31,7 +31,10 @@ pub struct Mark<'a> {
 
 /// The starts and ends of all versions of these tables: by the transaction, then by the table, then by
 /// number. Takes the time of sorting them. The only error is want of memory.
-pub fn sorted_marks<'a>(alloc: Global, tables: &[ImageTable<'a>]) -> Result<Vec<Mark<'a>>, Memory>
+pub(crate) fn sorted_marks<'a>(
+    alloc: Global,
+    tables: &[ImageTable<'a>],
+) -> Result<Vec<Mark<'a>>, Memory>
     requires { All HaveEncodableValues tables.now }
     ensures { IfOk result (λ marks. AreMarks (map table_of tables.now) marks.items) }
 {
@@ -129,7 +132,7 @@ fn compare_marks(a: &Mark, b: &Mark) -> Ordering
 }
 
 /// Those of a transaction, which stand together, and the hashes of their leaves. Takes two ordered searches.
-pub fn run_of<'m, 'h, 'a>(
+pub(crate) fn run_of<'m, 'h, 'a>(
     marks: &'m [Mark<'a>],
     hashes: &'h [Hash],
     tx: TxId,
@@ -148,7 +151,7 @@ pub fn run_of<'m, 'h, 'a>(
 }
 
 /// So many of the hashes, from the one at place `from` on.
-pub fn hashes_at(hashes: &[Hash], from: usize, count: usize) -> &[Hash]
+pub(crate) fn hashes_at(hashes: &[Hash], from: usize, count: usize) -> &[Hash]
     requires { from + count ≤ length hashes.now }
     ensures { result.now ≡ take count (drop from hashes.now) }
 {
@@ -156,7 +159,7 @@ pub fn hashes_at(hashes: &[Hash], from: usize, count: usize) -> &[Hash]
 }
 
 /// The first of these as far as they are of the table, and the others.
-pub fn first_group<'m, 'a>(
+pub(crate) fn first_group<'m, 'a>(
     marks: &'m [Mark<'a>],
     table: TableId,
 ) -> (&'m [Mark<'a>], &'m [Mark<'a>])
@@ -169,7 +172,7 @@ pub fn first_group<'m, 'a>(
 }
 
 /// Appends the leaf of a start or an end. The only error is want of memory.
-pub fn put_leaf(mark: &Mark, out: &mut Vec<u8>) -> Result<(), Memory>
+pub(crate) fn put_leaf(mark: &Mark, out: &mut Vec<u8>) -> Result<(), Memory>
     requires { AreValues mark.now.version.now.values }
     ensures { OnOk result (out.new.items ≡ out.old.items ++ event_bytes (event_of mark.now)) }
 {

@@ -14,7 +14,7 @@ use sql_types::TxEntry;
 use std::cmp::Ordering;
 
 /// The first of two entries, where there is one.
-pub fn first_root(
+pub(crate) fn first_root(
     first: Option<(u64, TableId)>,
     second: Option<(u64, TableId)>,
 ) -> Option<(u64, TableId)>

@@ -5,7 +5,7 @@ ghost use Rattle.spec_verify.specs.Entries as spec;
 ghost use Rattle.audit_roots.specs.Numbered.{is_range};
 
 /// Whether each number below their count stands among them once. They are sorted where they aren't in order.
-pub fn are_numbered(numbers: &mut Vec<u64>) -> bool
+pub(crate) fn are_numbered(numbers: &mut Vec<u64>) -> bool
     ensures { result ≡ spec.are_numbered numbers.old.items }
 {
     if is_range(numbers) {

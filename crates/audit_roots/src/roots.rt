@@ -121,7 +121,7 @@ fn put_numbers(marks: &[Mark], numbers: &mut Vec<u64>) -> Result<(), Memory>
 }
 
 /// The root over the leaves of each table, of which the hashes are known, in place of those that were there.
-pub fn put_roots<H: Hash32>(
+pub(crate) fn put_roots<H: Hash32>(
     alloc: Global,
     hasher: H,
     marks: &[Mark],
@@ -188,7 +188,7 @@ fn least_other(a: &[TableRoot], b: &[TableRoot]) -> Option<TableId>
     least_among(a, b, b, best)
 }
 
-pub fn least_among(
+pub(crate) fn least_among(
     a: &[TableRoot],
     b: &[TableRoot],
     roots: &[TableRoot],
@@ -207,7 +207,7 @@ pub fn least_among(
     best
 }
 
-pub fn lesser(best: Option<TableId>, table: TableId) -> Option<TableId>
+pub(crate) fn lesser(best: Option<TableId>, table: TableId) -> Option<TableId>
     ensures { result ≡ lesser nat_cmp best table }
 {
     match best {
@@ -216,7 +216,7 @@ pub fn lesser(best: Option<TableId>, table: TableId) -> Option<TableId>
     }
 }
 
-pub fn same_root(a: Option<Hash>, b: Option<Hash>) -> bool
+pub(crate) fn same_root(a: Option<Hash>, b: Option<Hash>) -> bool
     ensures { result ≡ spec.same_root a b }
 {
     match (a, b) {
@@ -226,7 +226,7 @@ pub fn same_root(a: Option<Hash>, b: Option<Hash>) -> bool
     }
 }
 
-pub fn root_at(roots: &[TableRoot], table: TableId) -> Option<Hash>
+pub(crate) fn root_at(roots: &[TableRoot], table: TableId) -> Option<Hash>
     ensures { result ≡ spec.root_at roots.now table }
 {
     for root in roots {

@@ -1,5 +1,5 @@
-pub mod Numbered
-pub mod Room
-pub mod RowsSpelled
-pub mod Told
-pub mod Walked
+mod Numbered
+mod Room
+mod RowsSpelled
+mod Told
+mod Walked

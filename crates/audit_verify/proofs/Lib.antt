@@ -1,18 +1,18 @@
-pub mod Bad
-pub mod BlockParts
-pub mod EntryPlaces
-pub mod Fitting
-pub mod GroupParts
-pub mod GroupsMerge
-pub mod InRuns
-pub mod KeyNumbers
-pub mod LeastParts
-pub mod Neighbours
-pub mod Places
-pub mod Small
-pub mod Started
-pub mod StoredRows
-pub mod Strangers
-pub mod TableIndexes
-pub mod VerdictParts
-pub mod WorstParts
+mod Bad
+mod BlockParts
+mod EntryPlaces
+mod Fitting
+mod GroupParts
+mod GroupsMerge
+mod InRuns
+mod KeyNumbers
+mod LeastParts
+mod Neighbours
+mod Places
+mod Small
+mod Started
+mod StoredRows
+mod Strangers
+mod TableIndexes
+mod VerdictParts
+mod WorstParts

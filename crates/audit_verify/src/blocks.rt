@@ -20,7 +20,11 @@ use std::thread::{Threads, join};
 
 /// The first digest that isn't of a block of the image.
 #[tactic(auto, unfolding(spec_verify::specs::Blocks::digest_fault))]
-pub fn digest_fault<H: Hash32>(hasher: H, image: &Image, digests: &[HeldDigest]) -> Option<Place>
+pub(crate) fn digest_fault<H: Hash32>(
+    hasher: H,
+    image: &Image,
+    digests: &[HeldDigest],
+) -> Option<Place>
     ensures { result ≡ spec.digest_fault (H.digest hasher) image.now digests.now }
 {
     for (k, digest) in digests.iter().enumerate() {
@@ -50,7 +54,7 @@ fn block_at(blocks: &[BlockRecord], at: usize) -> &BlockRecord
 
 /// The first block that isn't linked to the one before it.
 #[tactic(auto, unfolding(spec_verify::specs::Blocks::chain_fault))]
-pub fn chain_fault<H: Hash32>(hasher: H, image: &Image) -> Option<Place>
+pub(crate) fn chain_fault<H: Hash32>(hasher: H, image: &Image) -> Option<Place>
     ensures { result ≡ spec.chain_fault (H.digest hasher) image.now }
 {
     let mut before = no_hash();
@@ -71,7 +75,7 @@ fn no_hash() -> Hash
 
 /// The first block that hasn't the size or the root of its entries.
 /// The entries are hashed in order, each once; those of one block, and its nodes of one level, four at a time.
-pub fn block_fault<H: Hash32>(
+pub(crate) fn block_fault<H: Hash32>(
     alloc: Global,
     hasher: H,
     image: &Image,
@@ -83,7 +87,7 @@ pub fn block_fault<H: Hash32>(
 }
 
 /// The same by so many threads.
-pub fn block_fault_by<H: Hash32, R: Threads + Sync>(
+pub(crate) fn block_fault_by<H: Hash32, R: Threads + Sync>(
     rt: &R,
     alloc: Global,
     hasher: H,

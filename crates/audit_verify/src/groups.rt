@@ -75,7 +75,7 @@ pub fn group_faults<H: Hash32>(
 }
 
 /// What fails of the versions and indexes of these tables.
-pub fn group_rows(
+pub(crate) fn group_rows(
     alloc: Global,
     image: &Image,
     from: usize,

@@ -17,7 +17,7 @@ use sql_types::{EventId, Version};
 
 /// The first entry whose id an earlier one has; where there is none, the least start or end by a
 /// transaction that has no entry. Takes an ordered search for each of them.
-pub fn id_fault(image: &Image, entries: &Entries, tables: &[ImageTable]) -> Option<Place>
+pub(crate) fn id_fault(image: &Image, entries: &Entries, tables: &[ImageTable]) -> Option<Place>
     requires found { AreFound entries.now }
     requires entries { entries.now.all.now ≡ image.now.entries }
     requires tables { AreImageTables tables.now image.now }

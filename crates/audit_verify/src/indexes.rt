@@ -26,7 +26,7 @@ use std::alloc::Global;
 use std::cmp::Ordering;
 
 /// The first index whose rows aren't those of the base.
-pub fn index_fault(
+pub(crate) fn index_fault(
     alloc: Global,
     image: &Image,
     tables: &[ImageTable],
@@ -39,7 +39,7 @@ pub fn index_fault(
 }
 
 /// The first index of these tables whose rows aren't those of the base.
-pub fn fault_among(alloc: Global, tables: &[ImageTable]) -> Result<Option<Place>, Memory>
+pub(crate) fn fault_among(alloc: Global, tables: &[ImageTable]) -> Result<Option<Place>, Memory>
     requires { AllByRecursion HasFewIndexes tables.now }
     ensures { IfOk result (λ place. place ≡ first_among tables.now) }
 {

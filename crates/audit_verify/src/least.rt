@@ -13,7 +13,7 @@ use std::cmp::Ordering;
 pub type TableEvent = (TableId, EventId);
 
 /// The lesser of the least so far and another: by the table, then by the transaction, then by the number.
-pub fn lesser(best: Option<TableEvent>, event: TableEvent) -> Option<TableEvent>
+pub(crate) fn lesser(best: Option<TableEvent>, event: TableEvent) -> Option<TableEvent>
     ensures { result ≡ lesser table_event_cmp best event }
 {
     match best {
@@ -22,7 +22,7 @@ pub fn lesser(best: Option<TableEvent>, event: TableEvent) -> Option<TableEvent>
     }
 }
 
-pub fn event_place(event: Option<TableEvent>) -> Option<Place>
+pub(crate) fn event_place(event: Option<TableEvent>) -> Option<Place>
     ensures { result ≡ event_place event }
 {
     match event {

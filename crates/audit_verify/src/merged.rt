@@ -15,7 +15,7 @@ use spec_verify::Place;
 use std::cmp::Ordering;
 
 /// What two groups find together, of which the first has the tables that come first.
-pub fn both(first: GroupFaults, second: GroupFaults) -> GroupFaults
+pub(crate) fn both(first: GroupFaults, second: GroupFaults) -> GroupFaults
     ensures root { result.root ≡ lesser_of (found_cmp nat_cmp) first.root second.root }
     ensures version { result.version ≡ spec.lesser_version first.version second.version }
     ensures index { result.index ≡ spec.if_none result.version (or_else first.index second.index) }
@@ -33,7 +33,7 @@ pub fn both(first: GroupFaults, second: GroupFaults) -> GroupFaults
 }
 
 /// The first of two places, where there is one.
-pub fn first_of_two(first: Option<Place>, second: Option<Place>) -> Option<Place>
+pub(crate) fn first_of_two(first: Option<Place>, second: Option<Place>) -> Option<Place>
     ensures { result ≡ or_else first second }
 {
     match first {

@@ -51,7 +51,7 @@ pub struct EarlierVersions {
 }
 
 /// The versions that have the table's columns: those of the base, and behind them those of the history.
-pub fn ranked_versions<'a>(
+pub(crate) fn ranked_versions<'a>(
     alloc: Global,
     positions: &Positions,
     table: &KeyedTable,
@@ -159,7 +159,10 @@ fn rank_of_end(positions: &Positions, end: Option<EventId>) -> Option<Rank>
 
 /// Sorts the versions by key, and those of a key by start.
 #[tactic(auto, using(crate::proofs::KeyNumbers::by_numbers))]
-pub fn sort_in_runs(table: &KeyedTable, ranked: &mut Vec<VersionWithRanks>) -> Result<(), Memory>
+pub(crate) fn sort_in_runs(
+    table: &KeyedTable,
+    ranked: &mut Vec<VersionWithRanks>,
+) -> Result<(), Memory>
     requires { AllByRecursion (spec.IsNumbered table.now.columns) ranked.old.items }
     ensures { OnOk result (ranked.new.items
         ≡ sorted (spec.ranked_cmp table.now.columns) ranked.old.items) }
@@ -246,7 +249,7 @@ fn openness(end: Option<Rank>) -> u8
 }
 
 /// The least start so far, and of the versions that don't stand in order among those of their key.
-pub fn least_out_of_order(
+pub(crate) fn least_out_of_order(
     table: &KeyedTable,
     ranked: &[VersionWithRanks],
     worst: Option<TableEvent>,

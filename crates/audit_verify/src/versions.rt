@@ -26,7 +26,7 @@ use std::alloc::Global;
 /// of the entries, the rows of the table of columns by column and start, and the versions of each table by key and
 /// start, and goes through them once, with an ordered search for each value of theirs.
 #[tactic(auto, unfolding(spec_verify::specs::Versions::version_fault))]
-pub fn version_fault(
+pub(crate) fn version_fault(
     alloc: Global,
     image: &Image,
     tables: &[ImageTable],
@@ -41,7 +41,7 @@ pub fn version_fault(
 }
 
 /// The start of the least version that its table may not have, if there is one.
-pub fn least_invalid_version(
+pub(crate) fn least_invalid_version(
     alloc: Global,
     columns: &ColumnRows,
     tables: &[ImageTable],

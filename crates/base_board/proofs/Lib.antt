@@ -1,10 +1,10 @@
-pub mod AllOut
-pub mod Closes
-pub mod EachStep
-pub mod Gives
-pub mod Leading
-pub mod Owners
-pub mod Parts
+mod AllOut
+mod Closes
+mod EachStep
+mod Gives
+mod Leading
+mod Owners
+mod Parts
 pub mod Rows
-pub mod Starts
-pub mod Takes
+mod Starts
+mod Takes

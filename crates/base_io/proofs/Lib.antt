@@ -1,3 +1,3 @@
-pub mod Answering
-pub mod Moved
-pub mod Places
+mod Answering
+mod Moved
+mod Places

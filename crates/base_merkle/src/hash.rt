@@ -5,8 +5,7 @@ ghost use Rattle.sha2.specs.Sha256.{sha256};
 ghost use Rattle.sha2.proofs.Facts256.{length-sha256};
 ghost use Rattle.base_sha256.specs.Messages.{bytes_of};
 
-use base_sha256::{Message, digest, digest_four};
-use base_sha256::Hash;
+use base_sha256::{Hash, Message, digest, digest_four};
 
 /// A hash function. Nothing but the length of its hashes is known of it, so whatever is proved over this
 /// trait holds for a weak hash too.

@@ -6,8 +6,7 @@ ghost use Rattle.base_merkle.specs.TreeHash.{tree_hash};
 
 use crate::Hash32;
 use crate::node::{head_of, node_hash};
-use base_sha256::Message;
-use base_sha256::Hash;
+use base_sha256::{Hash, Message};
 use std::alloc::{AllocError, Global};
 
 // The four nodes above eight, of which the heads have the left ones.

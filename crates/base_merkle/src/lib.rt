@@ -7,8 +7,7 @@ mod law;
 mod level;
 mod node;
 
-pub use base_sha256::Message;
-pub use base_sha256::Hash;
+pub use base_sha256::{Hash, Message};
 pub use frontier::{Frontier, FrontierMark};
 pub use hash::{Hash32, Sha256Hash};
 pub use law::{root_of_leaf, tree_hash_law};

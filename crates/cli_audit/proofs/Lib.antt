@@ -1,12 +1,12 @@
 pub mod AnswerLemmas
 pub mod AsOfLemmas
 pub mod CallLemmas
-pub mod CheckLemmas
+mod CheckLemmas
 pub mod ExtractLemmas
-pub mod FilesLemmas
-pub mod GetLemmas
+mod FilesLemmas
+mod GetLemmas
 pub mod PastLemmas
-pub mod ReceiptLemmas
+mod ReceiptLemmas
 pub mod ReplayLemmas
-pub mod TransferLemmas
-pub mod UpgradeLemmas
+mod TransferLemmas
+mod UpgradeLemmas

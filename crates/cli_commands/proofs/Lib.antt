@@ -1,7 +1,7 @@
-pub mod AnswerLemmas
-pub mod CallLemmas
+mod AnswerLemmas
+mod CallLemmas
 mod GoesOnLemmas
-pub mod SavedLemmas
+mod SavedLemmas
 mod StartLemmas
 mod TopLemmas
 mod ReportLemmas

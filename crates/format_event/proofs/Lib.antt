@@ -7,4 +7,4 @@ pub mod TypeLaws
 pub mod TypedExact
 mod ValueLaws
 pub mod Values
-pub mod Told
+mod Told

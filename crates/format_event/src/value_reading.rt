@@ -14,7 +14,7 @@ use std::alloc::Global;
 
 /// The value of this type that the bytes spell. Whether it is in the range of the type is tested elsewhere.
 #[tactic(auto, unfolding(crate::specs::LeafReading::value_of))]
-pub fn value_of(alloc: Global, ty: SqlType, bytes: &[u8]) -> Result<Value, ReadError>
+pub(crate) fn value_of(alloc: Global, ty: SqlType, bytes: &[u8]) -> Result<Value, ReadError>
     requires { second_parameter ty < 256 }
     ensures { ReadsAs (λ v. v) result (value_of ty bytes.now) }
 {

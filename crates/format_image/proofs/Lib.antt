@@ -1,10 +1,10 @@
-pub mod AnyRows
-pub mod ColumnsRead
-pub mod DefExact
-pub mod Each
+mod AnyRows
+mod ColumnsRead
+mod DefExact
+mod Each
 pub mod ImageExact
-pub mod Marks
-pub mod Places
-pub mod ProperNames
-pub mod RowExact
-pub mod Walking
+mod Marks
+mod Places
+mod ProperNames
+mod RowExact
+mod Walking

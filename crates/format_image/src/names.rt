@@ -7,7 +7,7 @@ ghost use Rattle.spec_model.specs.ProperNames.{is_name_byte, is_proper_name, has
 use sql_value::TableKind;
 
 /// Whether the bytes are a name: 1 to 128 of them, from a blank to `~` without the brackets.
-pub fn is_proper_name(name: &[u8]) -> bool
+pub(crate) fn is_proper_name(name: &[u8]) -> bool
     ensures { result ≡ is_proper_name name.now }
 {
     !name.is_empty() && name.len() <= 128 && are_name_bytes(name)
@@ -26,7 +26,7 @@ fn is_name_byte(b: u8) -> bool
 }
 
 /// Whether a table of this kind may have a history of this name: an append-only one has none.
-pub fn has_its_history(kind: TableKind, history: &[u8]) -> bool
+pub(crate) fn has_its_history(kind: TableKind, history: &[u8]) -> bool
     ensures { result ≡ has_its_history kind history.now }
 {
     match kind {

@@ -18,7 +18,7 @@ use std::alloc::Global;
 
 /// The definitions of the tables of users, by strictly rising id from 3.
 #[tactic(auto, unfolding(crate::specs::ImageReading::defs_at))]
-pub fn defs_at(
+pub(crate) fn defs_at(
     alloc: Global,
     version: ImageVersion,
     bytes: &[u8],

@@ -17,7 +17,7 @@ use std::alloc::Global;
 
 /// The blocks, and the entries at the places that their sizes give them.
 #[tactic(auto, unfolding(crate::specs::ImageReading::ledger_at))]
-pub fn ledger_at(
+pub(crate) fn ledger_at(
     alloc: Global,
     bytes: &[u8],
 ) -> Result<((Items<BlockRecord>, Items<TxEntry>), &[u8]), ReadError>

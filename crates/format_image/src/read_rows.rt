@@ -14,7 +14,7 @@ use std::alloc::Global;
 
 /// The rows of the two tables of the system, and of the table of each of these definitions.
 #[tactic(auto, unfolding(crate::specs::ImageReading::tables_at))]
-pub fn tables_at<'a>(
+pub(crate) fn tables_at<'a>(
     alloc: Global,
     defs: &[TableDef],
     bytes: &'a [u8],

@@ -15,7 +15,7 @@ pub enum ImageVersion {
 }
 
 /// The number of the version in an image.
-pub fn version_code(version: ImageVersion) -> u8
+pub(crate) fn version_code(version: ImageVersion) -> u8
     ensures { result ≡ version_code version }
 {
     match version {
@@ -26,7 +26,7 @@ pub fn version_code(version: ImageVersion) -> u8
 
 /// The version whose number is the first byte.
 #[tactic(auto, unfolding(crate::specs::ImageReading::version_at))]
-pub fn version_at(bytes: &[u8]) -> Result<(ImageVersion, &[u8]), ReadError>
+pub(crate) fn version_at(bytes: &[u8]) -> Result<(ImageVersion, &[u8]), ReadError>
     ensures { Finds (λ x. (x.0, x.1.now)) result (version_at bytes.now) }
 {
     let (code, rest) = u8_at(bytes)?;

@@ -14,7 +14,11 @@ use sql_types::{IndexDef, TableDef};
 use sql_value::{ColumnDef, TableKind};
 
 /// Appends how many definitions there are, and these.
-pub fn put_defs(version: ImageVersion, defs: &[TableDef], out: &mut Vec<u8>) -> Result<(), Memory>
+pub(crate) fn put_defs(
+    version: ImageVersion,
+    defs: &[TableDef],
+    out: &mut Vec<u8>,
+) -> Result<(), Memory>
     requires count { length defs.now < 2 ^ 32 }
     requires each { All IsDef defs.now }
     ensures { OnOk result (out.new.items ≡ out.old.items ++ defs_bytes version defs.now) }

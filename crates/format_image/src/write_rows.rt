@@ -9,7 +9,7 @@ use format_event::put_typed;
 use sql_types::{EventId, IndexRow, TableRows, TypedValue, Version};
 
 /// Appends the rows of each of these tables.
-pub fn put_tables(tables: &[TableRows], out: &mut Vec<u8>) -> Result<(), Memory>
+pub(crate) fn put_tables(tables: &[TableRows], out: &mut Vec<u8>) -> Result<(), Memory>
     requires { All AreRows tables.now }
     ensures { OnOk result (out.new.items ≡ out.old.items ++ flat_map rows_bytes tables.now) }
 {

@@ -1,5 +1,5 @@
-pub mod Filled
-pub mod Joined
-pub mod Orders
-pub mod UserDefs
+mod Filled
+mod Joined
+mod Orders
+mod UserDefs
 pub use Rattle.law_image.proofs.Entries

@@ -10,7 +10,7 @@ use std::alloc::Global;
 use std::collections::BTreeSet;
 
 /// Whether the ids of the transactions are all different. Each costs a look-up in an ordered set.
-pub fn ids_differ(alloc: Global, items: &[JournalItem]) -> Result<bool, Memory>
+pub(crate) fn ids_differ(alloc: Global, items: &[JournalItem]) -> Result<bool, Memory>
     ensures { IfOk result (λ b. b ≡ ids_differ [] items.now) }
 {
     let mut before = BTreeSet::new(alloc);
@@ -34,7 +34,7 @@ fn is_new(item: &JournalItem, before: &mut BTreeSet<TxId>) -> Result<bool, Memor
 }
 
 /// Whether each closing takes no more transactions than are pending there.
-pub fn closes_follow(items: &[JournalItem]) -> bool
+pub(crate) fn closes_follow(items: &[JournalItem]) -> bool
     ensures { result ≡ closes_follow 0 items.now }
 {
     let mut pending = 0u64;

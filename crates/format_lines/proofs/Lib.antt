@@ -1,6 +1,6 @@
-pub mod Blanks
-pub mod Cuts
-pub mod Said
-pub mod Grows
-pub mod Utf8
-pub mod Sessions
+mod Blanks
+mod Cuts
+mod Said
+mod Grows
+mod Utf8
+mod Sessions

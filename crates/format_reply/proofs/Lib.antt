@@ -1,3 +1,3 @@
-pub mod Codes
-pub mod Lines
-pub mod Shown
+mod Codes
+mod Lines
+mod Shown

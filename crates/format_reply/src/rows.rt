@@ -78,7 +78,7 @@ fn push_rows(alloc: Global, indent: &str, rows: &[Row], text: &mut String) -> Re
 }
 
 /// A line for each row, and then the count of the rows, each behind an indent.
-pub fn rows_with_count(alloc: Global, indent: &str, rows: &[Row]) -> Result<String, Memory>
+pub(crate) fn rows_with_count(alloc: Global, indent: &str, rows: &[Row]) -> Result<String, Memory>
     ensures { IfOk result (λ text.
         string_bytes text ≡ lines_of indent.now rows.now
         ++ (indent.now ++ spec.count_line (length rows.now) ++ 10 ∷ [])) }

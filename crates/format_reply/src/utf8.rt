@@ -20,7 +20,7 @@ fn day_shows_utf8(day: u32)
 }
 
 /// What a value shows is UTF-8. Does nothing: it is there for its contract.
-pub fn shows_utf8(value: &Value)
+pub(crate) fn shows_utf8(value: &Value)
     ensures { IsUtf8 (printed value.now) }
 {
     match value {

@@ -1,3 +1,3 @@
-pub mod BodyExact
+mod BodyExact
 pub mod RowExact
-pub mod StepsExact
+mod StepsExact

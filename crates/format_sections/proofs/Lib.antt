@@ -1,6 +1,6 @@
-pub mod Texts
-pub mod Come
-pub mod Reached
-pub mod Laws
-pub mod Sizes
-pub mod Whole
+mod Texts
+mod Come
+mod Reached
+mod Laws
+mod Sizes
+mod Whole

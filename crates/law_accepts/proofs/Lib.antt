@@ -1,18 +1,18 @@
 pub mod Along
 pub mod Begins
 pub mod Blocks
-pub mod Columns
-pub mod ByNumber
-pub mod Definitions
-pub mod Events
+mod Columns
+mod ByNumber
+mod Definitions
+mod Events
 pub mod FilledTables
-pub mod Firsts
+mod Firsts
 pub mod Ids
-pub mod Indexes
+mod Indexes
 pub mod RoomOfCuts
-pub mod Roots
-pub mod Shown
+mod Roots
+mod Shown
 pub mod Sizes
-pub mod Stay
-pub mod Versions
-pub mod Whole
+mod Stay
+mod Versions
+mod Whole

@@ -2,10 +2,10 @@ mod Answered
 mod GrowAlong
 mod Grown
 mod LastRow
-pub mod Later
-pub mod Shown
+mod Later
+mod Shown
 mod Stays
-pub mod Told
+mod Told
 mod ToldColumns
 mod ToldDatabase
 mod ToldDef

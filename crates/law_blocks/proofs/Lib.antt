@@ -1,5 +1,5 @@
 pub mod Counting
-pub mod Digests
+mod Digests
 pub mod Roots
 pub mod Staying
 pub use Rattle.spec_history.proofs.Alls

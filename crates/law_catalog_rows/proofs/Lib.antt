@@ -1,36 +1,36 @@
-pub mod About
+mod About
 pub mod AnyOrder
-pub mod ChangedTables
+mod ChangedTables
 pub mod CountingUp
-pub mod Declared
+mod Declared
 pub mod Defs
-pub mod DroppedKept
-pub mod EachEncoded
-pub mod Edited
+mod DroppedKept
+mod EachEncoded
+mod Edited
 pub mod FormedAfter
 pub mod Forms
 pub mod FormsAltered
-pub mod FreshNames
+mod FreshNames
 pub mod ItemRows
 pub mod Journals
 pub mod KeptByJournals
-pub mod KeyCounted
-pub mod KeyKept
-pub mod KeyPositions
+mod KeyCounted
+mod KeyKept
+mod KeyPositions
 pub mod LatestOf
-pub mod LiveRows
-pub mod MayBe
-pub mod Names
-pub mod NewIndex
-pub mod NewNames
-pub mod NewTable
-pub mod NextRow
+mod LiveRows
+mod MayBe
+mod Names
+mod NewIndex
+mod NewNames
+mod NewTable
+mod NextRow
 pub mod OneRowMore
 pub mod Orders
-pub mod Ordinals
+mod Ordinals
 pub mod Passing
-pub mod RowsAfter
-pub mod Tests
-pub mod Unchanged
-pub mod WrittenAfter
+mod RowsAfter
+mod Tests
+mod Unchanged
+mod WrittenAfter
 pub use Rattle.law_frame.proofs.Alls

@@ -1,1 +1,1 @@
-pub mod OfParsed
+mod OfParsed

@@ -1,7 +1,7 @@
-pub mod CreatedColumns
-pub mod EnteredRows
+mod CreatedColumns
+mod EnteredRows
 pub mod Journals
-pub mod Statements
-pub mod ToldChanges
-pub mod ToldColumns
-pub mod ToldStatements
+mod Statements
+mod ToldChanges
+mod ToldColumns
+mod ToldStatements

@@ -28,9 +28,9 @@ ghost use Rattle.law_concurrent.specs.TogetherBehind.{RanTogetherBehind};
 
 use crate::laws::statements_have_one_meaning;
 use law_behind::without_a_past_nothing_else_is_meant;
-use law_kept_images::{agreement_behind_a_past_is_of_any_order, transcripts_agree_behind_the_past};
 use law_kept_images::{
-    digests_are_held_where_their_blocks_are_closed, images_of_legal_journals_verify,
+    agreement_behind_a_past_is_of_any_order, digests_are_held_where_their_blocks_are_closed,
+    images_of_legal_journals_verify, transcripts_agree_behind_the_past,
 };
 
 /// Once all seats were joined into one, what it wrote is that of a run of all sessions together: in whatever

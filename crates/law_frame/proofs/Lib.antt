@@ -7,11 +7,11 @@ pub mod Beside
 pub mod BesideOne
 pub mod ByKeys
 pub mod ByTest
-pub mod ChangesMade
+mod ChangesMade
 pub mod Checked
 pub mod Definitions
 pub mod Filled
-pub mod InsertedKeys
+mod InsertedKeys
 mod KeyPlaces
 pub mod LeftAlone
 pub mod LeftRows
@@ -27,11 +27,11 @@ pub mod NoEvents
 pub mod OtherTransactions
 pub mod PlainRefusals
 pub mod ChangeSets
-pub mod SameAlone
+mod SameAlone
 pub mod SameEnds
 pub mod SameKeys
 pub mod SameChangeSet
-pub mod SameScripts
+mod SameScripts
 pub mod SameTouched
 pub mod SoundStatements
 pub mod Sounds

@@ -23,8 +23,9 @@ use crate::laws::accepted_images_are_bound;
 use base_io::Clock;
 use law_catalog_text::readings_of_the_grammar_give_written;
 use law_image::legal_images_are_encodable;
-use law_kept_images::kept_images_behind_a_past_are_accepted;
-use law_kept_images::digests_behind_a_past_are_closed_in_later_images;
+use law_kept_images::{
+    digests_behind_a_past_are_closed_in_later_images, kept_images_behind_a_past_are_accepted,
+};
 
 /// So it is of a run that goes on from a journal: every saved image has all of it, and `verify` says Yes of it with
 /// every digest issued before, in this run or ever of that journal, and binds whatever else it says Yes of with them.

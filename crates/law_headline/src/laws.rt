@@ -28,8 +28,10 @@ use base_io::Clock;
 use format_event::equal_leaves_are_of_equal_events;
 use law_catalog_text::readings_of_the_grammar_give_written;
 use law_image::legal_images_are_encodable;
-use law_kept_images::{images_of_legal_journals_verify, kept_images_are_accepted};
-use law_kept_images::digests_before_an_image_are_closed_in_it;
+use law_kept_images::{
+    digests_before_an_image_are_closed_in_it, images_of_legal_journals_verify,
+    kept_images_are_accepted,
+};
 
 /// Whatever is accepted with digests with which an image is accepted has the same covered transactions and row
 /// versions under each of them, or two different strings of bytes, hashed at one place of the two images, have

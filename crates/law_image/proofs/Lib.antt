@@ -1,5 +1,5 @@
-pub mod Defs
+mod Defs
 pub mod Entries
-pub mod Images
-pub mod NothingDropped
-pub mod Rows
+mod Images
+mod NothingDropped
+mod Rows

@@ -7,19 +7,19 @@ pub mod Entering
 pub mod Here
 pub mod Keeping
 pub mod Lift
-pub mod NewChanges
+mod NewChanges
 pub mod NewRows
 pub mod NumberKeys
 pub mod Order
-pub mod Refusals
-pub mod RowChanges
+mod Refusals
+mod RowChanges
 pub mod Scripts
 pub mod Serials
 pub mod Statements
 pub mod SoFar
-pub mod SystemKeys
+mod SystemKeys
 pub mod SystemRows
 pub mod Tables
 pub mod Taken
-pub mod Units
+mod Units
 pub mod Values

@@ -1,5 +1,5 @@
 pub mod Counts
 pub mod Holders
 pub mod ImagesInOrder
-pub mod InOrder
+mod InOrder
 pub mod Parts

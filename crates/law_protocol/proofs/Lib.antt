@@ -1,28 +1,28 @@
 pub mod AlonesKeep
-pub mod Beginning
-pub mod CommitAsked
-pub mod Decides
-pub mod DecidesSteps
-pub mod AnonymousActsTell
-pub mod AssignNoId
-pub mod FollowsMore
+mod Beginning
+mod CommitAsked
+mod Decides
+mod DecidesSteps
+mod AnonymousActsTell
+mod AssignNoId
+mod FollowsMore
 pub mod FollowsSteps
-pub mod FreeOrMet
-pub mod HeldStatements
-pub mod IdleOnes
+mod FreeOrMet
+mod HeldStatements
+mod IdleOnes
 pub mod JournalKept
 pub mod KeepsRequested
 pub mod KeptImages
-pub mod LeastHolder
-pub mod LedgerAsked
-pub mod LedgerBase
+mod LeastHolder
+mod LedgerAsked
+mod LedgerBase
 pub mod OneAtATime
-pub mod OneSeat
-pub mod OthersHold
+mod OneSeat
+mod OthersHold
 pub mod InSessionOrder
-pub mod SeatNames
+mod SeatNames
 pub mod SinceFirst
-pub mod StepOrderKept
+mod StepOrderKept
 pub mod StepsAlone
 pub mod StepsKeep
 pub use Rattle.law_protocol_ledger.proofs.JoinsStand

@@ -1,5 +1,5 @@
 pub mod Apart
-pub mod CatalogTakes
+mod CatalogTakes
 pub mod ChangeKeeps
 pub mod ChangedRows
 pub mod ChangesAt
@@ -9,7 +9,7 @@ pub mod Creating
 pub mod DigestsStand
 pub mod Grown
 pub mod OutsideRefusals
-pub mod PlainReplies
+mod PlainReplies
 pub mod SaidThere
 pub mod SaysHistory
 pub mod StepsQuiet

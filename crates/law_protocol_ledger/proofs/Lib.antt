@@ -1,27 +1,27 @@
 pub mod AloneStands
-pub mod Begins
-pub mod CatalogLocks
+mod Begins
+mod CatalogLocks
 pub mod CommitCreates
-pub mod CommitRows
-pub mod CommitsHistory
+mod CommitRows
+mod CommitsHistory
 pub mod CommitsStand
-pub mod CommittedMore
-pub mod CreatedTables
-pub mod EndsHistory
-pub mod Entries
+mod CommittedMore
+mod CreatedTables
+mod EndsHistory
+mod Entries
 pub mod KeepsStand
-pub mod KnownMore
-pub mod KnownTurns
-pub mod Overs
+mod KnownMore
+mod KnownTurns
+mod Overs
 pub mod QuietOnes
 pub mod ReadsStand
 pub mod Splits
-pub mod StepsBack
-pub mod StepsChecked
-pub mod StepsEnd
-pub mod StepsRole
-pub mod StepsTake
-pub mod Visited
+mod StepsBack
+mod StepsChecked
+mod StepsEnd
+mod StepsRole
+mod StepsTake
+mod Visited
 pub use Rattle.law_protocol_changes.proofs.CreateVisits
 pub use Rattle.law_protocol_changes.proofs.DigestsStand
 pub use Rattle.law_protocol_end.proofs.BegunNames

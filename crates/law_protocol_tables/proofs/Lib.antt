@@ -1,25 +1,25 @@
 pub mod AddIndex
 pub mod AskedStays
 pub mod Barring
-pub mod ChangeTrees
+mod ChangeTrees
 pub mod Changes
-pub mod FixedOnes
+mod FixedOnes
 pub mod Formed
 pub mod GivesBackStand
 pub mod GoingBack
 pub mod KeepsAsked
-pub mod KeptNow
+mod KeptNow
 pub mod MetLock
 pub mod PassedRequests
 pub mod ReadsSystemStands
-pub mod Releases
+mod Releases
 pub mod ReleasesCatalogStand
-pub mod ReleasesStand
+mod ReleasesStand
 pub mod RowsVisits
-pub mod LiveByKey
+mod LiveByKey
 pub mod StopsAtLock
 pub mod StopsForMemory
-pub mod TranscriptVisits
-pub mod UndoesStand
-pub mod UndoneTwice
+mod TranscriptVisits
+mod UndoesStand
+mod UndoneTwice
 pub mod VisitsAsked

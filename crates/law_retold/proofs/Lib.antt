@@ -1,4 +1,4 @@
-pub mod Behind
+mod Behind
 mod Begins
 mod Drawn
 mod Fitting

@@ -1,24 +1,24 @@
 pub mod AtStart
 mod Begins
-pub mod Calm
-pub mod ClosedBefore
-pub mod Closes
-pub mod Ends
+mod Calm
+mod ClosedBefore
+mod Closes
+mod Ends
 mod FirstRuns
 pub mod Goes
 pub mod GoesBehind
-pub mod InFront
-pub mod LedgerInStep
+mod InFront
+mod LedgerInStep
 pub mod Over
 pub mod SameNames
 pub mod SeatOn
 pub mod SeatOnBehind
 pub mod SessionsStand
 pub mod SessionsStandBehind
-pub mod SinceStart
-pub mod Texts
+mod SinceStart
+mod Texts
 pub mod SessionOutput
-pub mod VisitInStep
+mod VisitInStep
 pub use Rattle.law_protocol.proofs.JournalKept
 pub use Rattle.law_protocol.proofs.KeptImages
 pub use Rattle.law_protocol.proofs.InSessionOrder

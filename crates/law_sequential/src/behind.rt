@@ -52,8 +52,9 @@ ghost use Rattle.law_sequential.specs.SessionOutput.{RunAgrees};
 ghost use Rattle.law_sequential.specs.Wrote.{Wrote, transcripts_in};
 
 use law_behind::without_a_past_nothing_else_is_meant;
-use law_going_on::{a_journal_that_goes_on_keeps_its_forms, a_server_starts};
-use law_going_on::transcripts_agree_behind_the_past;
+use law_going_on::{
+    a_journal_that_goes_on_keeps_its_forms, a_server_starts, transcripts_agree_behind_the_past,
+};
 use law_moments::new_items_have_moments_of_seats;
 
 /// A run begins behind the past that a legal journal is, if its transactions can be told again, if fewer entries than

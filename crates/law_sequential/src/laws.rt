@@ -42,8 +42,7 @@ ghost use Rattle.law_sequential.specs.SessionOutput.{HasEnded, RunAgrees};
 ghost use Rattle.law_sequential.specs.Wrote.{Wrote, transcripts_in};
 
 use law_behind::without_a_past_nothing_else_is_meant;
-use law_going_on::a_server_starts;
-use law_going_on::transcripts_agree_behind_the_past;
+use law_going_on::{a_server_starts, transcripts_agree_behind_the_past};
 use law_moments::new_items_have_moments_of_seats;
 
 /// With the first cells and the first seat a course begins, in which nothing has happened.

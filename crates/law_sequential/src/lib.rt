@@ -14,7 +14,9 @@ pub use behind::{
     runs_behind_no_past_agree, sessions_begin_behind_a_past, sessions_end_behind_a_past,
     times_behind_a_past_are_those_of_sessions,
 };
-pub use law_going_on::{agreement_behind_a_past_is_of_any_order, transcripts_agree_behind_the_past};
+pub use law_going_on::{
+    agreement_behind_a_past_is_of_any_order, transcripts_agree_behind_the_past,
+};
 pub use laws::{
     digests_before_an_image_are_closed_in_it, ended_sequential_runs_agree, full_blocks_are_closed,
     journals_of_sequential_runs_are_legal, no_lines_take_no_statement, sequential_runs_begin,

@@ -1,22 +1,22 @@
-pub mod AllCells
+mod AllCells
 pub mod Calls
 pub mod ClosingPending
 pub mod AnonymousActs
-pub mod Ends
+mod Ends
 pub mod FirstCells
 pub mod Holding
 pub mod Midways
-pub mod LastAnswers
-pub mod LastLines
-pub mod OneServer
+mod LastAnswers
+mod LastLines
+mod OneServer
 pub mod Pairs
-pub mod Pending
-pub mod Settled
+mod Pending
+mod Settled
 mod StartingCells
-pub mod Texts
+mod Texts
 pub mod Turns
-pub mod Unchanged
-pub mod Waiting
+mod Unchanged
+mod Waiting
 pub mod Within
 pub use Rattle.law_sequential.proofs.SameNames
 pub use Rattle.law_sequential.proofs.SessionOutput

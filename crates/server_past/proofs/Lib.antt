@@ -1,3 +1,3 @@
-pub mod PastCells
-pub mod Ready
-pub mod Starting
+mod PastCells
+mod Ready
+mod Starting

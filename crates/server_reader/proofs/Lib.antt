@@ -1,1 +1,1 @@
-pub mod Replies
+mod Replies

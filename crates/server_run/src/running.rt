@@ -24,9 +24,8 @@ use law_concurrent::{
     digests_are_held_where_their_blocks_are_closed, images_of_legal_journals_verify,
     runs_side_by_side_behind_a_past_agree,
 };
-use law_snapshots::snapshots_are_of_serial_runs;
+use law_snapshots::{images_of_cuts_are_encodable, snapshots_are_of_serial_runs};
 use server_ending::{close_all, left_by, left_closed};
-use law_snapshots::images_of_cuts_are_encodable;
 use server_result::{RunOutcome, Settings, is_encodable, moment};
 use server_thread::{Cell, first_cells, runs_start};
 use std::alloc::Global;

@@ -1,10 +1,10 @@
 pub mod Alone
-pub mod Course
+mod Course
 pub mod Ending
 pub mod Keeping
-pub mod LastAnswers
-pub mod Reversed
-pub mod Savepoints
+mod LastAnswers
+mod Reversed
+mod Savepoints
 pub mod Sitting
 pub use Rattle.spec_ledger.proofs.Adding
 pub use Rattle.spec_protocol.proofs.LedgerNumbers

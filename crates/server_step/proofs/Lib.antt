@@ -1,11 +1,11 @@
-pub mod Comes
-pub mod Ends
-pub mod Joins
-pub mod Named
-pub mod Nexts
-pub mod NoPast
-pub mod OneList
-pub mod Places
-pub mod Steps
-pub mod Whole
+mod Comes
+mod Ends
+mod Joins
+mod Named
+mod Nexts
+mod NoPast
+mod OneList
+mod Places
+mod Steps
+mod Whole
 pub use Rattle.law_kept_images.proofs.SessionOutput

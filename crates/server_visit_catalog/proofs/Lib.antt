@@ -1,11 +1,11 @@
-pub mod CatalogBehind
-pub mod CatalogCreated
-pub mod CatalogFound
-pub mod CatalogGot
-pub mod CatalogLocks
-pub mod CatalogLooked
-pub mod CatalogParts
-pub mod CatalogReleased
-pub mod CatalogSitting
-pub mod CatalogStopped
-pub mod CatalogVisits
+mod CatalogBehind
+mod CatalogCreated
+mod CatalogFound
+mod CatalogGot
+mod CatalogLocks
+mod CatalogLooked
+mod CatalogParts
+mod CatalogReleased
+mod CatalogSitting
+mod CatalogStopped
+mod CatalogVisits

@@ -1,7 +1,7 @@
-pub mod Ledger
-pub mod LedgerAssigns
-pub mod LedgerCommits
-pub mod LedgerEnds
-pub mod LedgerEntries
-pub mod LedgerIssues
+mod Ledger
+mod LedgerAssigns
+mod LedgerCommits
+mod LedgerEnds
+mod LedgerEntries
+mod LedgerIssues
 pub use Rattle.law_protocol_steps.proofs.CellsOut

@@ -1,7 +1,7 @@
-pub mod RowsBack
-pub mod RowsFound
-pub mod RowsIndex
-pub mod RowsRan
-pub mod RowsRelease
-pub mod RowsSeat
-pub mod RowsThere
+mod RowsBack
+mod RowsFound
+mod RowsIndex
+mod RowsRan
+mod RowsRelease
+mod RowsSeat
+mod RowsThere

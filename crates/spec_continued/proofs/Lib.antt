@@ -1,1 +1,1 @@
-pub mod FirstCells
+mod FirstCells

@@ -7,13 +7,13 @@ pub mod Closing
 pub mod Cuts
 pub mod TranscriptsSoFar
 pub mod IdsAssigned
-pub mod Exact
+mod Exact
 pub mod Finding
 pub mod Follow
 pub mod Grows
 pub mod Issued
 pub mod Items
-pub mod Lacks
+mod Lacks
 pub mod Legal
 pub mod Legality
 pub mod Lines
@@ -26,13 +26,13 @@ pub mod Real
 pub mod Refused
 pub mod Rising
 pub mod Rows
-pub mod Samples
+mod Samples
 pub mod Settles
 pub mod Setup
 pub mod Signs
 pub mod SoFar
 pub mod Stable
-pub mod Theirs
+mod Theirs
 pub mod Trace
 pub use Rattle.law_frame.proofs.Alls
 pub use Rattle.law_frame.proofs.LeftRows

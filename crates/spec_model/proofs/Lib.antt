@@ -1,3 +1,3 @@
 mod Classed
-pub mod Missing
+mod Missing
 mod Unknown

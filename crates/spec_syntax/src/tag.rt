@@ -147,7 +147,7 @@ pub fn same_tag(a: Tag, b: Tag) -> bool
     a == b
 }
 
-pub fn same_word(a: &[u8], b: &[u8]) -> bool
+pub(crate) fn same_word(a: &[u8], b: &[u8]) -> bool
     ensures { result ≡ str_eq_ignore_ascii_case a.now b.now }
 {
     a.eq_ignore_ascii_case(b)

@@ -1,18 +1,18 @@
 pub mod AllHold
 pub mod AllTold
-pub mod CoveredSo
-pub mod Deciding
-pub mod Firsts
-pub mod InOrder
+mod CoveredSo
+mod Deciding
+mod Firsts
+mod InOrder
 pub mod Judged
 pub mod Leasts
 pub mod Merged
-pub mod SameRows
+mod SameRows
 pub mod EncodedSo
 pub mod SystemRows
 pub mod ToldBlocks
 pub mod ToldEntries
-pub mod ToldTables
+mod ToldTables
 pub mod ToldVersions
 mod Worked
 mod WorkedBytes

@@ -1,5 +1,5 @@
-pub mod Owned
+mod Owned
 pub mod Places
-pub mod Retained
-pub mod Steps
-pub mod Tables
+mod Retained
+mod Steps
+mod Tables

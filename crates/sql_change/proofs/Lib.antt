@@ -1,3 +1,3 @@
-pub mod KeyOrder
-pub mod LiveNames
-pub mod Matched
+mod KeyOrder
+mod LiveNames
+mod Matched

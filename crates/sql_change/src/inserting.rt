@@ -74,7 +74,7 @@ fn kept_as_listed(
 /// stands, or is among those before it. Of n rows each is looked up once where `versions` finds those that
 /// stand, and once by halving among those before it.
 #[tactic(auto, unfolding(spec_model::specs::Changes::inserted_rows))]
-pub fn inserted_rows<R: LiveVersions>(
+pub(crate) fn inserted_rows<R: LiveVersions>(
     alloc: Global,
     table: &KeyedTable,
     versions: &R,

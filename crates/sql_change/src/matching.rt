@@ -15,7 +15,7 @@ use std::alloc::Global;
 
 /// The versions that stand and that the condition takes, in key order. None is copied.
 #[tactic(auto, unfolding(spec_model::specs::Changes::versions_matched))]
-pub fn versions_matched<'a, R: LiveVersions>(
+pub(crate) fn versions_matched<'a, R: LiveVersions>(
     alloc: Global,
     table: &KeyedTable,
     cond: &Option<Expr>,

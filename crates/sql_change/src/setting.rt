@@ -130,7 +130,7 @@ fn each_set(
 
 /// The rows of versions after SET, one for each.
 #[tactic(auto, using(sql_parts::proofs::Zipped::pairs_of_each))]
-pub fn rows_after_set(
+pub(crate) fn rows_after_set(
     alloc: Global,
     def: &TableDef,
     sets: &[(Name, Expr)],
@@ -160,7 +160,7 @@ fn add_replaced(
 }
 
 /// The end of each version, and then the start of the row that takes its place.
-pub fn replacement(
+pub(crate) fn replacement(
     alloc: Global,
     columns: &[ColumnDef],
     versions: &[&Version],

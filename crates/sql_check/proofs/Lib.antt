@@ -1,4 +1,4 @@
-pub mod Alterations
-pub mod Lists
-pub mod NameSets
-pub mod NewTables
+mod Alterations
+mod Lists
+mod NameSets
+mod NewTables

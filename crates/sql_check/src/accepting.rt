@@ -36,14 +36,14 @@ fn is_date(value: &Value) -> bool
 }
 
 /// Whether the column takes a literal.
-pub fn accepts_value(column: &ColumnDef, value: &Value) -> bool
+pub(crate) fn accepts_value(column: &ColumnDef, value: &Value) -> bool
     ensures { result ≡ spec.accepts_value column.now value.now }
 {
     accepts_class(&column.ty, class_of_literal(value), is_date(value))
 }
 
 /// Whether the column takes what an expression over the columns gives.
-pub fn accepts_expr(columns: &Columns, column: &ColumnDef, e: &Expr) -> bool
+pub(crate) fn accepts_expr(columns: &Columns, column: &ColumnDef, e: &Expr) -> bool
     ensures { result ≡ spec.accepts_expr columns.now column.now (tree e.now) }
 {
     match class(e, columns) {
@@ -53,7 +53,7 @@ pub fn accepts_expr(columns: &Columns, column: &ColumnDef, e: &Expr) -> bool
 }
 
 /// Whether the columns that a condition names are there.
-pub fn names_condition(columns: &Columns, cond: &Option<Expr>) -> bool
+pub(crate) fn names_condition(columns: &Columns, cond: &Option<Expr>) -> bool
     ensures { result ≡ spec.cond_names columns.now cond.now }
 {
     match cond {
@@ -63,7 +63,7 @@ pub fn names_condition(columns: &Columns, cond: &Option<Expr>) -> bool
 }
 
 /// Whether a condition is a truth value.
-pub fn is_condition(columns: &Columns, cond: &Option<Expr>) -> bool
+pub(crate) fn is_condition(columns: &Columns, cond: &Option<Expr>) -> bool
     ensures { result ≡ spec.cond_is_truth columns.now cond.now }
 {
     match cond {

@@ -79,7 +79,7 @@ fn view_name(alloc: Global, table: &Name, written: &Option<Name>) -> Result<Name
 }
 
 /// Whether the name begins as those of added columns do, in any case.
-pub fn is_ledger_name(name: &Name) -> bool
+pub(crate) fn is_ledger_name(name: &Name) -> bool
     ensures { result ≡ spec.is_ledger_name name.now }
 {
     let bytes = name.bytes();
@@ -88,7 +88,7 @@ pub fn is_ledger_name(name: &Name) -> bool
 }
 
 /// Whether a new name is too long.
-pub fn is_long(name: &Name) -> bool
+pub(crate) fn is_long(name: &Name) -> bool
     ensures { result ≡ spec.is_long name.now }
 {
     name.bytes().len() > MOST_NAME_BYTES
@@ -96,7 +96,7 @@ pub fn is_long(name: &Name) -> bool
 
 /// Whether two of a table's names are one.
 #[tactic(auto, unfolding(crate::specs::NewTable::names_repeat))]
-pub fn names_repeat(name: &Name, history: &Name, view: &Name) -> bool
+pub(crate) fn names_repeat(name: &Name, history: &Name, view: &Name) -> bool
     ensures { result ≡ new.names_repeat name.now history.now view.now }
 {
     is_named(history, name) || is_named(view, name) || is_named(view, history)
@@ -104,7 +104,7 @@ pub fn names_repeat(name: &Name, history: &Name, view: &Name) -> bool
 
 /// Whether one of a table's names stands for something already.
 #[tactic(auto, unfolding(crate::specs::NewTable::names_used))]
-pub fn names_used<D: Definitions>(defs: &D, name: &Name, history: &Name, view: &Name) -> bool
+pub(crate) fn names_used<D: Definitions>(defs: &D, name: &Name, history: &Name, view: &Name) -> bool
     ensures { result ≡ new.names_used (D.defs defs.now) name.now history.now view.now }
 {
     defs.is_used(name) || defs.is_used(history) || defs.is_used(view)
@@ -112,7 +112,7 @@ pub fn names_used<D: Definitions>(defs: &D, name: &Name, history: &Name, view: &
 
 /// Whether one of a table's names is too long.
 #[tactic(auto, unfolding(crate::specs::NewTable::names_long))]
-pub fn names_long(name: &Name, history: &Name, view: &Name) -> bool
+pub(crate) fn names_long(name: &Name, history: &Name, view: &Name) -> bool
     ensures { result ≡ new.names_long name.now history.now view.now }
 {
     is_long(name) || is_long(history) || is_long(view)

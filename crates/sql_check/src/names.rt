@@ -58,14 +58,14 @@ fn any_named<T: Named>(items: &[T], name: &Name) -> bool
 
 /// Whether one of these has the name.
 #[tactic(auto, using(crate::proofs::Lists::any_map))]
-pub fn has_name<T: Named>(items: &[T], name: &Name) -> bool
+pub(crate) fn has_name<T: Named>(items: &[T], name: &Name) -> bool
     ensures { result ≡ spec.has_name (map T.named items.now) name.now }
 {
     any_named(items, name)
 }
 
 /// Whether some name stands twice. Takes memory where there are many, and time in proportion to n log n.
-pub fn repeats<T: Named>(alloc: Global, items: &[T]) -> Result<bool, Memory>
+pub(crate) fn repeats<T: Named>(alloc: Global, items: &[T]) -> Result<bool, Memory>
     ensures { IfOk result (λ b. b ≡ spec.repeats (map T.named items.now)) }
 {
     if items.len() > FEW_NAMES {
@@ -128,7 +128,7 @@ pub fn part_named(def: &TableDef, name: &Name) -> Option<Part>
 }
 
 /// Whether the name is this one; what has no name is found by none.
-pub fn is_named(own: &Name, name: &Name) -> bool
+pub(crate) fn is_named(own: &Name, name: &Name) -> bool
     ensures { result ≡ catalog.is_named own.now name.now }
 {
     !own.bytes().is_empty() && *own == *name

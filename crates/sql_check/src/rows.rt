@@ -22,7 +22,7 @@ use std::alloc::Global;
 const MOST_ROWS: usize = 1000;
 
 /// Refuses where a check fails.
-pub fn refuse_if(fails: bool, refusal: Refusal) -> Result<(), Refusal>
+pub(crate) fn refuse_if(fails: bool, refusal: Refusal) -> Result<(), Refusal>
     ensures { result ≡ spec.refused_if fails refusal (Ok tt) }
 {
     if fails { Err(refusal) } else { Ok(()) }
@@ -69,7 +69,7 @@ pub fn check_stmt(alloc: Global, stmt: &RowStmt, def: &TableDef, part: Part) -> 
 
 /// Whether statements may change what a part of a table stands for: neither a history table, a view or a system table, nor
 /// a table that was dropped.
-pub fn is_standing(def: &TableDef, part: Part) -> bool
+pub(crate) fn is_standing(def: &TableDef, part: Part) -> bool
     ensures { result ≡ spec.is_standing def.now part }
 {
     part == Part::Base && !def.gone
@@ -144,14 +144,14 @@ fn have_values(rows: &[Row], count: usize) -> bool
 }
 
 /// Whether all these columns are declared.
-pub fn are_declared(columns: &[ColumnDef], names: &[Name]) -> bool
+pub(crate) fn are_declared(columns: &[ColumnDef], names: &[Name]) -> bool
     ensures { result ≡ list_all (spec.is_declared columns.now) names.now }
 {
     names.iter().all(|name| place_of(columns, name).is_some())
 }
 
 /// Whether all these columns are among those that stand.
-pub fn are_live(live: &LiveColumns, names: &[Name]) -> bool
+pub(crate) fn are_live(live: &LiveColumns, names: &[Name]) -> bool
     ensures { result ≡ list_all (spec.is_declared live.now) names.now }
 {
     names.iter().all(|name| live.has(name))

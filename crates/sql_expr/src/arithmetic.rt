@@ -80,7 +80,7 @@ pub fn sum(v: i128, s: u8, w: i128, z: u8) -> Result<Number, Refusal>
 
 /// The first number without the second.
 #[tactic(auto, unfolding(spec_model::specs::Numbers::difference_of))]
-pub fn difference(v: i128, s: u8, w: i128, z: u8) -> Result<Number, Refusal>
+pub(crate) fn difference(v: i128, s: u8, w: i128, z: u8) -> Result<Number, Refusal>
     ensures { IsNumber (spec.difference_of v s w z) result }
 {
     match aligned(v, s, w, z) {
@@ -91,7 +91,7 @@ pub fn difference(v: i128, s: u8, w: i128, z: u8) -> Result<Number, Refusal>
 
 /// The product of two numbers.
 #[tactic(auto, unfolding(spec_model::specs::Numbers::product_of))]
-pub fn product(v: i128, s: u8, w: i128, z: u8) -> Result<Number, Refusal>
+pub(crate) fn product(v: i128, s: u8, w: i128, z: u8) -> Result<Number, Refusal>
     ensures { IsNumber (spec.product_of v s w z) result }
 {
     if s <= 38 && z <= 38 - s {
@@ -103,7 +103,7 @@ pub fn product(v: i128, s: u8, w: i128, z: u8) -> Result<Number, Refusal>
 
 /// The number with the other sign.
 #[tactic(auto, unfolding(spec_model::specs::Numbers::negative_of))]
-pub fn negative(v: i128, s: u8) -> Result<Number, Refusal>
+pub(crate) fn negative(v: i128, s: u8) -> Result<Number, Refusal>
     ensures { IsNumber (spec.negative_of v s) result }
 {
     sized(v.checked_neg(), s)

@@ -68,7 +68,7 @@ fn connective_class(a: Class, b: Class) -> Result<Class, Refusal>
 }
 
 /// What an operator of two operands gives.
-pub fn binary_class(op: Op, a: Class, b: Class) -> Result<Class, Refusal>
+pub(crate) fn binary_class(op: Op, a: Class, b: Class) -> Result<Class, Refusal>
     ensures { result ≡ spec.binary_class op a b }
 {
     match op {
@@ -80,7 +80,7 @@ pub fn binary_class(op: Op, a: Class, b: Class) -> Result<Class, Refusal>
 }
 
 /// The negation takes numbers and NULL.
-pub fn negation_class(a: Class) -> Result<Class, Refusal>
+pub(crate) fn negation_class(a: Class) -> Result<Class, Refusal>
     ensures { result ≡ spec.negation_class a }
 {
     match a {
@@ -90,7 +90,7 @@ pub fn negation_class(a: Class) -> Result<Class, Refusal>
 }
 
 /// The test for NULL takes all but truths.
-pub fn null_test_class(a: Class) -> Result<Class, Refusal>
+pub(crate) fn null_test_class(a: Class) -> Result<Class, Refusal>
     ensures { result ≡ spec.null_test_class a }
 {
     match a {
@@ -100,7 +100,7 @@ pub fn null_test_class(a: Class) -> Result<Class, Refusal>
 }
 
 /// NOT takes truths.
-pub fn opposite_class(a: Class) -> Result<Class, Refusal>
+pub(crate) fn opposite_class(a: Class) -> Result<Class, Refusal>
     ensures { result ≡ spec.opposite_class a }
 {
     match a {

@@ -14,7 +14,7 @@ use sql_value::{Op, Refusal, compare_numbers};
 use std::cmp::Ordering;
 
 /// Whether a comparison holds of operands in this order.
-pub fn takes(op: Op, order: Ordering) -> bool
+pub(crate) fn takes(op: Op, order: Ordering) -> bool
     ensures { result ≡ spec.takes op order }
 {
     match op {
@@ -29,7 +29,7 @@ pub fn takes(op: Op, order: Ordering) -> bool
 }
 
 /// The negation of a number; that of NULL is NULL.
-pub fn negated<'a>(of: OutcomeRef<'a>) -> Result<OutcomeRef<'a>, Refusal>
+pub(crate) fn negated<'a>(of: OutcomeRef<'a>) -> Result<OutcomeRef<'a>, Refusal>
     ensures { Shows (spec.negated (outcome_of of.entry)) result }
 {
     match of {
@@ -40,7 +40,7 @@ pub fn negated<'a>(of: OutcomeRef<'a>) -> Result<OutcomeRef<'a>, Refusal>
 }
 
 /// The opposite of a truth.
-pub fn inverted<'a>(of: OutcomeRef<'a>) -> Result<OutcomeRef<'a>, Refusal>
+pub(crate) fn inverted<'a>(of: OutcomeRef<'a>) -> Result<OutcomeRef<'a>, Refusal>
     ensures { Shows (spec.inverted (outcome_of of.entry)) result }
 {
     match of {
@@ -50,7 +50,7 @@ pub fn inverted<'a>(of: OutcomeRef<'a>) -> Result<OutcomeRef<'a>, Refusal>
 }
 
 /// The test for NULL, or where it is negated for another value.
-pub fn null_test<'a>(negated: bool, of: OutcomeRef<'a>) -> Result<OutcomeRef<'a>, Refusal>
+pub(crate) fn null_test<'a>(negated: bool, of: OutcomeRef<'a>) -> Result<OutcomeRef<'a>, Refusal>
     ensures { Shows (spec.null_test negated (outcome_of of.entry)) result }
 {
     match of {
@@ -130,7 +130,11 @@ fn connected<'a>(op: Op, x: OutcomeRef<'a>, y: OutcomeRef<'a>) -> Result<Outcome
 }
 
 /// What an operator makes of its operands.
-pub fn applied<'a>(op: Op, x: OutcomeRef<'a>, y: OutcomeRef<'a>) -> Result<OutcomeRef<'a>, Refusal>
+pub(crate) fn applied<'a>(
+    op: Op,
+    x: OutcomeRef<'a>,
+    y: OutcomeRef<'a>,
+) -> Result<OutcomeRef<'a>, Refusal>
     ensures { Shows (spec.applied op (outcome_of x.entry) (outcome_of y.entry)) result }
 {
     match op {

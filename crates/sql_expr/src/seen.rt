@@ -22,7 +22,7 @@ pub enum OutcomeRef<'a> {
 }
 
 /// A value, seen where it lies.
-pub fn value_ref(value: &Value) -> OutcomeRef<'_>
+pub(crate) fn value_ref(value: &Value) -> OutcomeRef<'_>
     ensures { outcome_of result ≡ out.Value value.now }
 {
     match value {
@@ -35,7 +35,7 @@ pub fn value_ref(value: &Value) -> OutcomeRef<'_>
 }
 
 /// A number, seen.
-pub fn number_ref<'a>(number: Number) -> OutcomeRef<'a>
+pub(crate) fn number_ref<'a>(number: Number) -> OutcomeRef<'a>
     ensures { outcome_of result ≡ out.Value (Num number.s number.v) }
 {
     OutcomeRef::Number {
@@ -45,7 +45,7 @@ pub fn number_ref<'a>(number: Number) -> OutcomeRef<'a>
 }
 
 /// An outcome of its own; only a text or bytes take memory.
-pub fn owned(seen: OutcomeRef<'_>) -> Result<Outcome, Memory>
+pub(crate) fn owned(seen: OutcomeRef<'_>) -> Result<Outcome, Memory>
     ensures { IfOk result (λ o. o ≡ outcome_of seen.entry) }
 {
     Ok(match seen {

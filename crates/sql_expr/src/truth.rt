@@ -4,7 +4,7 @@ ghost use Rattle.std.specs.Prelude.{◌≡◌};
 ghost use Rattle.spec_model.specs.Truths as spec;
 
 /// True where both are, false where one is, else unknown.
-pub fn both(s: Option<bool>, t: Option<bool>) -> Option<bool>
+pub(crate) fn both(s: Option<bool>, t: Option<bool>) -> Option<bool>
     ensures { result ≡ spec.both s t }
 {
     match (s, t) {
@@ -15,7 +15,7 @@ pub fn both(s: Option<bool>, t: Option<bool>) -> Option<bool>
 }
 
 /// True where one is, false where both are, else unknown.
-pub fn either(s: Option<bool>, t: Option<bool>) -> Option<bool>
+pub(crate) fn either(s: Option<bool>, t: Option<bool>) -> Option<bool>
     ensures { result ≡ spec.either s t }
 {
     match (s, t) {
@@ -26,7 +26,7 @@ pub fn either(s: Option<bool>, t: Option<bool>) -> Option<bool>
 }
 
 /// False for true, true for false; unknown stays.
-pub fn opposite(t: Option<bool>) -> Option<bool>
+pub(crate) fn opposite(t: Option<bool>) -> Option<bool>
     ensures { result ≡ spec.opposite t }
 {
     t.map(|b| !b)

@@ -1,12 +1,12 @@
-pub mod Best
-pub mod Bytes
-pub mod Ends
+mod Best
+mod Bytes
+mod Ends
 pub mod Found
 pub mod Laws
-pub mod Numbers
-pub mod Quotes
-pub mod Runs
-pub mod Scans
-pub mod Spans
-pub mod Texts
-pub mod Words
+mod Numbers
+mod Quotes
+mod Runs
+mod Scans
+mod Spans
+mod Texts
+mod Words

@@ -31,7 +31,7 @@ fn is_in(class: Class, b: u8) -> bool
 }
 
 /// The byte at a place, or 0 past the end.
-pub fn byte(z: &[u8], at: usize) -> u8
+pub(crate) fn byte(z: &[u8], at: usize) -> u8
     ensures value { result ≡ slice_index z.now at }
     ensures within { result ≢ 0 → at < length z.now }
 {
@@ -194,7 +194,7 @@ fn front(z: &[u8]) -> Option<(Kind, usize)>
 
 /// The longest token at the front: its kind and its length.
 #[tactic(auto, using(crate::proofs::Found::front_is))]
-pub fn longest(z: &[u8]) -> Option<(Kind, usize)>
+pub(crate) fn longest(z: &[u8]) -> Option<(Kind, usize)>
     requires { length z.now < 2 ^ 63 }
     ensures value { result ≡ token.longest z.now }
     ensures within { IfSome result (λ t. (1 ≤ t.1) × (t.1 ≤ length z.now)) }

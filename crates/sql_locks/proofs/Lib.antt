@@ -1,1 +1,1 @@
-pub mod KeyPlaces
+mod KeyPlaces

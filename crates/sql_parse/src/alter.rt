@@ -41,7 +41,7 @@ fn drop_column(alloc: Global, c: &mut Cursor<'_>, table: Name) -> Result<Alter, 
 
 /// What stands behind ALTER.
 #[tactic(auto, unfolding(spec_syntax::specs::Table::alter_table))]
-pub fn alter_table(alloc: Global, c: &mut Cursor<'_>) -> Result<Alter, ParseErr>
+pub(crate) fn alter_table(alloc: Global, c: &mut Cursor<'_>) -> Result<Alter, ParseErr>
     ensures { ParsesUnlessOom (spec.alter_table c.old) result c.new }
 {
     c.expect(Tag::Table)?;
@@ -61,7 +61,7 @@ pub fn alter_table(alloc: Global, c: &mut Cursor<'_>) -> Result<Alter, ParseErr>
 
 /// What stands behind DROP.
 #[tactic(auto, unfolding(spec_syntax::specs::Table::drop_table))]
-pub fn drop_table(alloc: Global, c: &mut Cursor<'_>) -> Result<Name, ParseErr>
+pub(crate) fn drop_table(alloc: Global, c: &mut Cursor<'_>) -> Result<Name, ParseErr>
     ensures { ParsesUnlessOom (spec.drop_table c.old) result c.new }
 {
     c.expect(Tag::Table)?;

@@ -83,7 +83,7 @@ fn decimal(c: &mut Cursor<'_>) -> Result<SqlType, ParseErr>
 }
 
 #[tactic(auto, unfolding(spec_syntax::specs::Table::sql_type))]
-pub fn sql_type(c: &mut Cursor<'_>) -> Result<SqlType, ParseErr>
+pub(crate) fn sql_type(c: &mut Cursor<'_>) -> Result<SqlType, ParseErr>
     ensures { ParsesUnlessOom (spec.sql_type c.old) result c.new }
 {
     match type_word(c)? {
@@ -217,7 +217,7 @@ fn item_step(alloc: Global, c: &mut Cursor<'_>, draft: Draft) -> Result<Draft, P
 
 /// The columns and the key, behind those that were found.
 #[tactic(auto, unfolding(spec_syntax::specs::Input::fold, spec_syntax::specs::Input::fold_from))]
-pub fn items(alloc: Global, c: &mut Cursor<'_>, mut found: Draft) -> Result<Draft, ParseErr>
+pub(crate) fn items(alloc: Global, c: &mut Cursor<'_>, mut found: Draft) -> Result<Draft, ParseErr>
     ensures { ParsesUnlessOom (spec.items found c.old) result c.new }
 {
     for _turn in 0..c.tokens_left() {
@@ -230,7 +230,7 @@ pub fn items(alloc: Global, c: &mut Cursor<'_>, mut found: Draft) -> Result<Draf
 }
 
 /// No columns, and no key.
-pub fn no_items(alloc: Global) -> Draft
+pub(crate) fn no_items(alloc: Global) -> Draft
     ensures { result ≡ spec.no_items }
 {
     Draft {

@@ -181,7 +181,7 @@ fn not(alloc: Global, c: &mut Cursor<'_>, depth: u16) -> Result<Expr, ParseErr>
 
 /// An expression.
 #[tactic(auto, unfolding(spec_syntax::specs::Expr::whole, spec_syntax::specs::Expr::level))]
-pub fn whole(alloc: Global, c: &mut Cursor<'_>) -> Result<Expr, ParseErr>
+pub(crate) fn whole(alloc: Global, c: &mut Cursor<'_>) -> Result<Expr, ParseErr>
     ensures { ParsesUnlessOom (spec.whole c.old) result c.new }
 {
     c.begin();

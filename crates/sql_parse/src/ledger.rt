@@ -192,7 +192,7 @@ fn ledger_options(alloc: Global, c: &mut Cursor<'_>) -> Result<Ledger, ParseErr>
 
 /// WITH and what it says, if it comes next.
 #[tactic(auto, unfolding(spec_syntax::specs::Ledger::ledger_part))]
-pub fn ledger_part(alloc: Global, c: &mut Cursor<'_>) -> Result<Ledger, ParseErr>
+pub(crate) fn ledger_part(alloc: Global, c: &mut Cursor<'_>) -> Result<Ledger, ParseErr>
     ensures { ParsesUnlessOom (spec.ledger_part c.old) result c.new }
 {
     if !c.eat(Tag::With) {

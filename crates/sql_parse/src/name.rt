@@ -36,7 +36,7 @@ fn inside(text: &str) -> Option<&str>
 
 /// The text of a name, bare or in brackets.
 #[tactic(auto, unfolding(spec_syntax::specs::Expr::name))]
-pub fn name_text<'a>(c: &mut Cursor<'a>) -> Result<&'a str, ParseErr>
+pub(crate) fn name_text<'a>(c: &mut Cursor<'a>) -> Result<&'a str, ParseErr>
     ensures { ParsesTextUnlessOom (spec.name c.old) result c.new }
 {
     match c.peek() {
@@ -47,7 +47,7 @@ pub fn name_text<'a>(c: &mut Cursor<'a>) -> Result<&'a str, ParseErr>
 }
 
 /// A name, bare or in brackets.
-pub fn name(alloc: Global, c: &mut Cursor<'_>) -> Result<Name, ParseErr>
+pub(crate) fn name(alloc: Global, c: &mut Cursor<'_>) -> Result<Name, ParseErr>
     ensures { ParsesUnlessOom (spec.name c.old) result c.new }
 {
     let text = name_text(c)?;
@@ -71,7 +71,7 @@ fn literal_value(alloc: Global, text: &str) -> Result<Value, ParseErr>
 
 /// A number without a sign, a text, bytes or NULL.
 #[tactic(auto, unfolding(spec_syntax::specs::Expr::literal))]
-pub fn literal(alloc: Global, c: &mut Cursor<'_>) -> Result<Value, ParseErr>
+pub(crate) fn literal(alloc: Global, c: &mut Cursor<'_>) -> Result<Value, ParseErr>
     ensures value { ParsesUnlessOom (spec.literal c.old) result c.new }
     ensures literal { IfOk result IsLiteral }
 {
@@ -83,7 +83,7 @@ pub fn literal(alloc: Global, c: &mut Cursor<'_>) -> Result<Value, ParseErr>
 
 /// A literal or the name of a column.
 #[tactic(auto, unfolding(spec_syntax::specs::Expr::leaf))]
-pub fn leaf(alloc: Global, c: &mut Cursor<'_>) -> Result<Expr, ParseErr>
+pub(crate) fn leaf(alloc: Global, c: &mut Cursor<'_>) -> Result<Expr, ParseErr>
     ensures { ParsesUnlessOom (spec.leaf c.old) result c.new }
 {
     c.spend()?;

@@ -37,7 +37,7 @@ fn put_rest<T: Print>(page: &mut Page, items: &[T]) -> Result<(), Memory>
 
 /// Items with commas between.
 #[tactic(auto, unfolding(spec_syntax::specs::Printed::listed), using(crate::proofs::Pages::write_append))]
-pub fn put_list<T: Print>(page: &mut Page, items: &[T]) -> Result<(), Memory>
+pub(crate) fn put_list<T: Print>(page: &mut Page, items: &[T]) -> Result<(), Memory>
     ensures { OnOk result (page.new ≡ write page.old (part.listed T.tokens items.now)) }
 {
     let Some((first, rest)) = first_of(items) else {
@@ -49,7 +49,7 @@ pub fn put_list<T: Print>(page: &mut Page, items: &[T]) -> Result<(), Memory>
 
 /// Items with commas between, in parentheses.
 #[tactic(auto, using(crate::proofs::Pages::write_append))]
-pub fn put_enclosed<T: Print>(page: &mut Page, items: &[T]) -> Result<(), Memory>
+pub(crate) fn put_enclosed<T: Print>(page: &mut Page, items: &[T]) -> Result<(), Memory>
     ensures { OnOk result (page.new ≡ write page.old (part.enclosed (part.listed T.tokens items.now))) }
 {
     page.key(Tag::Open)?;
@@ -103,7 +103,7 @@ fn put_null(page: &mut Page, negated: bool) -> Result<(), Memory>
 }
 
 /// An expression, with parentheses round each operator's whole expression.
-pub fn put_expr(page: &mut Page, e: &Expr) -> Result<(), Memory>
+pub(crate) fn put_expr(page: &mut Page, e: &Expr) -> Result<(), Memory>
     ensures { OnOk result (page.new ≡ write page.old (part.expr (tree e.now))) }
 {
     match e {

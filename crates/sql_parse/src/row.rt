@@ -16,7 +16,7 @@ use std::alloc::Global;
 
 /// Names with commas between.
 #[tactic(auto, unfolding(spec_syntax::specs::Input::list, spec_syntax::specs::Input::list_from))]
-pub fn names(alloc: Global, c: &mut Cursor<'_>) -> Result<Items<Name>, ParseErr>
+pub(crate) fn names(alloc: Global, c: &mut Cursor<'_>) -> Result<Items<Name>, ParseErr>
     ensures { ParsesUnlessOom (spec.names c.old) result c.new }
 {
     let mut found = Items::new(alloc);
@@ -31,7 +31,7 @@ pub fn names(alloc: Global, c: &mut Cursor<'_>) -> Result<Items<Name>, ParseErr>
 
 /// Names in parentheses.
 #[tactic(auto, unfolding(spec_syntax::specs::Row::name_list))]
-pub fn name_list(alloc: Global, c: &mut Cursor<'_>) -> Result<Items<Name>, ParseErr>
+pub(crate) fn name_list(alloc: Global, c: &mut Cursor<'_>) -> Result<Items<Name>, ParseErr>
     ensures { ParsesUnlessOom (spec.name_list c.old) result c.new }
 {
     c.expect(Tag::Open)?;
@@ -131,7 +131,7 @@ fn columns(alloc: Global, c: &mut Cursor<'_>) -> Result<Option<Items<Name>>, Par
 
 /// What stands behind INSERT.
 #[tactic(auto, unfolding(spec_syntax::specs::Row::insert))]
-pub fn insert(alloc: Global, c: &mut Cursor<'_>) -> Result<RowStmt, ParseErr>
+pub(crate) fn insert(alloc: Global, c: &mut Cursor<'_>) -> Result<RowStmt, ParseErr>
     ensures { ParsesUnlessOom (spec.insert c.old) result c.new }
 {
     c.eat(Tag::Into);
@@ -148,7 +148,7 @@ pub fn insert(alloc: Global, c: &mut Cursor<'_>) -> Result<RowStmt, ParseErr>
 
 /// WHERE and its condition, if it comes next.
 #[tactic(auto, unfolding(spec_syntax::specs::Row::filter))]
-pub fn filter(alloc: Global, c: &mut Cursor<'_>) -> Result<Option<Expr>, ParseErr>
+pub(crate) fn filter(alloc: Global, c: &mut Cursor<'_>) -> Result<Option<Expr>, ParseErr>
     ensures { ParsesUnlessOom (spec.filter c.old) result c.new }
 {
     if !c.eat(Tag::Where) {
@@ -183,7 +183,7 @@ fn assignments(alloc: Global, c: &mut Cursor<'_>) -> Result<Items<(Name, Expr)>,
 
 /// What stands behind UPDATE.
 #[tactic(auto, unfolding(spec_syntax::specs::Row::update))]
-pub fn update(alloc: Global, c: &mut Cursor<'_>) -> Result<RowStmt, ParseErr>
+pub(crate) fn update(alloc: Global, c: &mut Cursor<'_>) -> Result<RowStmt, ParseErr>
     ensures { ParsesUnlessOom (spec.update c.old) result c.new }
 {
     let table = name(alloc, c)?;
@@ -195,7 +195,7 @@ pub fn update(alloc: Global, c: &mut Cursor<'_>) -> Result<RowStmt, ParseErr>
 
 /// What stands behind DELETE.
 #[tactic(auto, unfolding(spec_syntax::specs::Row::delete))]
-pub fn delete(alloc: Global, c: &mut Cursor<'_>) -> Result<RowStmt, ParseErr>
+pub(crate) fn delete(alloc: Global, c: &mut Cursor<'_>) -> Result<RowStmt, ParseErr>
     ensures { ParsesUnlessOom (spec.delete c.old) result c.new }
 {
     c.eat(Tag::From);

@@ -126,7 +126,7 @@ fn order_of(
 
 /// What stands behind SELECT.
 #[tactic(auto, unfolding(spec_syntax::specs::Select::select))]
-pub fn select(alloc: Global, c: &mut Cursor<'_>) -> Result<Select, ParseErr>
+pub(crate) fn select(alloc: Global, c: &mut Cursor<'_>) -> Result<Select, ParseErr>
     ensures { ParsesUnlessOom (spec.select c.old) result c.new }
 {
     let what = what(alloc, c)?;

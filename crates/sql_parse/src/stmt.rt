@@ -174,7 +174,7 @@ fn body(alloc: Global, c: &mut Cursor<'_>) -> Result<Stmt, ParseErr>
 
 /// A statement, and nothing behind it.
 #[tactic(auto, unfolding(spec_syntax::specs::Stmt::statement))]
-pub fn statement(alloc: Global, c: &mut Cursor<'_>) -> Result<Stmt, ParseErr>
+pub(crate) fn statement(alloc: Global, c: &mut Cursor<'_>) -> Result<Stmt, ParseErr>
     ensures { ParsesUnlessOom (spec.statement c.old) result c.new }
 {
     let found = body(alloc, c)?;

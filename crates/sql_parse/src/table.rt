@@ -121,7 +121,7 @@ fn table_of(
 
 /// What stands behind CREATE TABLE.
 #[tactic(auto, unfolding(spec_syntax::specs::Table::create_table))]
-pub fn create_table(alloc: Global, c: &mut Cursor<'_>) -> Result<CreateTable, ParseErr>
+pub(crate) fn create_table(alloc: Global, c: &mut Cursor<'_>) -> Result<CreateTable, ParseErr>
     ensures { ParsesUnlessOom (spec.create_table c.old) result c.new }
 {
     let name = name(alloc, c)?;
@@ -134,7 +134,7 @@ pub fn create_table(alloc: Global, c: &mut Cursor<'_>) -> Result<CreateTable, Pa
 
 /// What stands behind CREATE INDEX.
 #[tactic(auto, unfolding(spec_syntax::specs::Table::create_index))]
-pub fn create_index(alloc: Global, c: &mut Cursor<'_>) -> Result<CreateIndex, ParseErr>
+pub(crate) fn create_index(alloc: Global, c: &mut Cursor<'_>) -> Result<CreateIndex, ParseErr>
     ensures { ParsesUnlessOom (spec.create_index c.old) result c.new }
 {
     let index = name(alloc, c)?;

@@ -78,7 +78,7 @@ fn call_name(word: &str) -> Option<CallName>
 
 /// A type's name, which may stand in brackets.
 #[tactic(auto, unfolding(spec_syntax::specs::Words::type_word))]
-pub fn type_word(c: &mut Cursor<'_>) -> Result<TypeName, ParseErr>
+pub(crate) fn type_word(c: &mut Cursor<'_>) -> Result<TypeName, ParseErr>
     ensures { ParsesUnlessOom (spec.type_word c.old) result c.new }
 {
     type_name(name_text(c)?).ok_or(ParseErr::Syntax)
@@ -86,7 +86,7 @@ pub fn type_word(c: &mut Cursor<'_>) -> Result<TypeName, ParseErr>
 
 /// An option's name, which may stand in brackets.
 #[tactic(auto, unfolding(spec_syntax::specs::Words::option_word))]
-pub fn option_word(c: &mut Cursor<'_>) -> Result<OptionName, ParseErr>
+pub(crate) fn option_word(c: &mut Cursor<'_>) -> Result<OptionName, ParseErr>
     ensures { ParsesUnlessOom (spec.option_word c.old) result c.new }
 {
     option_name(name_text(c)?).ok_or(ParseErr::Syntax)
@@ -94,7 +94,7 @@ pub fn option_word(c: &mut Cursor<'_>) -> Result<OptionName, ParseErr>
 
 /// A word of a call, which stands bare.
 #[tactic(auto, unfolding(spec_syntax::specs::Words::call_word))]
-pub fn call_word(c: &mut Cursor<'_>) -> Result<CallName, ParseErr>
+pub(crate) fn call_word(c: &mut Cursor<'_>) -> Result<CallName, ParseErr>
     ensures { ParsesUnlessOom (spec.call_word c.old) result c.new }
 {
     match c.peek() {

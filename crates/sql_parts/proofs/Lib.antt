@@ -1,11 +1,11 @@
-pub mod AddedColumns
+mod AddedColumns
 pub mod Dropped
-pub mod Filled
-pub mod Fixed
+mod Filled
+mod Fixed
 pub mod InTurn
-pub mod Lists
+mod Lists
 pub mod Orders
 pub mod Positions
-pub mod Refusals
+mod Refusals
 pub mod Sorting
 pub mod Zipped

@@ -58,7 +58,10 @@ fn places_of(alloc: Global, placed: &[(usize, &ColumnDef)]) -> Result<Vec<usize>
 }
 
 /// The columns of the primary key, by key position.
-pub fn key_columns<'a>(alloc: Global, table: &KeyedTable<'a>) -> Result<Vec<&'a ColumnDef>, Memory>
+pub(crate) fn key_columns<'a>(
+    alloc: Global,
+    table: &KeyedTable<'a>,
+) -> Result<Vec<&'a ColumnDef>, Memory>
     ensures { IfOk result (λ found. map (λ c. c.now) found.items ≡ spec.key_columns table.now.columns) }
 {
     columns_at(alloc, table.columns(), table.key())

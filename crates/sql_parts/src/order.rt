@@ -13,7 +13,7 @@ use sql_types::{EventId, Row, Version};
 use sql_value::ColumnDef;
 
 /// Sorts columns, each with its place, by their positions in the key.
-pub fn sort_by_position(placed: &mut Vec<(usize, &ColumnDef)>) -> Result<(), Memory>
+pub(crate) fn sort_by_position(placed: &mut Vec<(usize, &ColumnDef)>) -> Result<(), Memory>
     ensures { OnOk result (map (λ p. (p.0, p.1.now)) placed.new.items
         ≡ sorted position_cmp (map (λ p. (p.0, p.1.now)) placed.old.items)) }
 {
@@ -22,7 +22,7 @@ pub fn sort_by_position(placed: &mut Vec<(usize, &ColumnDef)>) -> Result<(), Mem
 }
 
 /// Sorts rows, each with its event, by the events.
-pub fn sort_by_event(shown: &mut Vec<(EventId, Row)>) -> Result<(), Memory>
+pub(crate) fn sort_by_event(shown: &mut Vec<(EventId, Row)>) -> Result<(), Memory>
     ensures { OnOk result (shown.new.items ≡ sorted (λ a b. event_cmp a.0 b.0) shown.old.items) }
 {
     shown.sort_by(|a, b| a.0.cmp(&b.0))?;
@@ -30,7 +30,7 @@ pub fn sort_by_event(shown: &mut Vec<(EventId, Row)>) -> Result<(), Memory>
 }
 
 /// Sorts versions of the table by their keys.
-pub fn sort_by_key(table: &KeyedTable, versions: &mut Vec<&Version>) -> Result<(), Memory>
+pub(crate) fn sort_by_key(table: &KeyedTable, versions: &mut Vec<&Version>) -> Result<(), Memory>
     ensures { OnOk result (map (λ v. v.now) versions.new.items
         ≡ sorted (by_key table.now.columns) (map (λ v. v.now) versions.old.items)) }
 {

@@ -49,7 +49,7 @@ pub fn base_row(alloc: Global, declared: &[ColumnDef], version: &Version) -> Res
 }
 
 /// The values of a version, one for each of the declared columns, with its start and this end.
-pub fn history_row(
+pub(crate) fn history_row(
     alloc: Global,
     declared: &[ColumnDef],
     version: &Version,

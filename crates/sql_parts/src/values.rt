@@ -74,7 +74,7 @@ pub fn copy_or_null(value: Option<&Value>) -> Result<Value, Memory>
 }
 
 /// Adds copies of a version's values to a row, and behind them NULL for each column that has none.
-pub fn add_values(
+pub(crate) fn add_values(
     columns: &[ColumnDef],
     version: &Version,
     row: &mut Vec<Value>,

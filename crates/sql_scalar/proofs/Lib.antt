@@ -1,6 +1,6 @@
-pub mod Conversions
-pub mod DayTexts
-pub mod Days
+mod Conversions
+mod DayTexts
+mod Days
 pub mod DigitTexts
 pub mod Digits
 mod Doubling

@@ -10,8 +10,7 @@ ghost use Rattle.sql_value.specs.declared.refusal.ValueErr.TheVariants.{OutOfRan
 use crate::day::{LAST_DAY, day_of};
 use crate::number::{has_digits, is_big_int, is_int, rescaled};
 use crate::text::units_of;
-use sql_value::{Blob, Text};
-use sql_value::{SqlType, Value, ValueErr};
+use sql_value::{Blob, SqlType, Text, Value, ValueErr};
 
 /// The value that a column of the type takes in place of `v`.
 ///

@@ -82,7 +82,7 @@ fn date_of(day: u32) -> Date
 }
 
 /// The year, month and day of a day's date.
-pub fn civil_of(day: u32) -> CivilDate
+pub(crate) fn civil_of(day: u32) -> CivilDate
     requires { day ≤ spec.last_day }
     ensures value { result ≡ spec.date_of day }
     ensures small { (result.year < 10000) × (result.month < 100) × (result.day < 100) }
@@ -103,7 +103,7 @@ fn digit(n: u16) -> u8
 }
 
 /// A date as `YYYY-MM-DD`.
-pub fn date_digits(c: CivilDate) -> [u8; 10]
+pub(crate) fn date_digits(c: CivilDate) -> [u8; 10]
     requires { (c.year < 10000) × (c.month < 100) × (c.day < 100) }
     ensures { result ≡ spec.date_text c }
 {

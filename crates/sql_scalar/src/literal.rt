@@ -8,9 +8,8 @@ ghost use Rattle.sql_value.specs.Literal as spec;
 ghost use Rattle.sql_value.specs.Literal.{unquoted_from};
 ghost use Rattle.sql_scalar.specs.Pieces.{IsPiece};
 
-use sql_value::{Blob, Text};
 use hex::FromHexError;
-use sql_value::{LitErr, Value};
+use sql_value::{Blob, LitErr, Text, Value};
 use std::alloc::Global;
 
 /// The most digits that a number is written with.

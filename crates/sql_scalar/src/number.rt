@@ -34,7 +34,7 @@ fn rounded(v: i128, places: u8) -> i128
 
 /// `v` in units of 10^-s, in units of 10^-z: exact, or rounded half away from zero. None where 128
 /// bits don't hold it.
-pub fn rescaled(v: i128, s: u8, z: u8) -> Option<i128>
+pub(crate) fn rescaled(v: i128, s: u8, z: u8) -> Option<i128>
     ensures { SomeIff result (FitsSigned w128 (spec.rescaled v s z)) (spec.rescaled v s z) }
 {
     if s <= z {
@@ -45,7 +45,7 @@ pub fn rescaled(v: i128, s: u8, z: u8) -> Option<i128>
 }
 
 /// Whether the number has at most so many digits.
-pub fn has_digits(v: i128, p: u32) -> bool
+pub(crate) fn has_digits(v: i128, p: u32) -> bool
     ensures { result ≡ spec.has_digits v p }
 {
     match 10u128.checked_pow(p) {
@@ -55,21 +55,21 @@ pub fn has_digits(v: i128, p: u32) -> bool
 }
 
 /// Whether the number is one of 32 bits.
-pub fn is_int(v: i128) -> bool
+pub(crate) fn is_int(v: i128) -> bool
     ensures { result ≡ in_bits 31 v }
 {
     i128::from(i32::MIN) <= v && v <= i128::from(i32::MAX)
 }
 
 /// Whether the number is one of 64 bits.
-pub fn is_big_int(v: i128) -> bool
+pub(crate) fn is_big_int(v: i128) -> bool
     ensures { result ≡ in_bits 63 v }
 {
     i128::from(i64::MIN) <= v && v <= i128::from(i64::MAX)
 }
 
 /// Whether the number is 0 or 1.
-pub fn is_bit(v: i128) -> bool
+pub(crate) fn is_bit(v: i128) -> bool
     ensures { result ≡ spec_is_bit v }
 {
     v == 0 || v == 1

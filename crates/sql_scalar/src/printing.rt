@@ -5,9 +5,8 @@ ghost use Rattle.hex.specs.Hex.{encode_upper, upper_digits};
 ghost use Rattle.sql_value.specs.Printed as spec;
 
 use crate::day::{LAST_DAY, civil_of, date_digits};
-use sql_value::Memory;
 use itoa::Buffer;
-use sql_value::Value;
+use sql_value::{Memory, Value};
 
 /// Appends a value as it is shown: NULL; a number with exactly as many digits behind the point as its scale
 /// has, and one or more before it; a text as `N'..'`, each quote in it doubled; bytes as `0x` and upper-case

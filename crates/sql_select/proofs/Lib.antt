@@ -1,5 +1,5 @@
-pub mod FromTaken
-pub mod KnownTotals
-pub mod Projections
-pub mod RepeatedKeys
-pub mod SortKeys
+mod FromTaken
+mod KnownTotals
+mod Projections
+mod RepeatedKeys
+mod SortKeys

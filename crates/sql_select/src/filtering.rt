@@ -15,7 +15,7 @@ use sql_value::{ColumnDef, Expr, Refusal};
 use std::alloc::Global;
 
 /// The rows that a condition takes; all of them without one.
-pub fn taken(
+pub(crate) fn taken(
     alloc: Global,
     columns: &Columns,
     cond: &Option<Expr>,
@@ -47,7 +47,7 @@ fn those_taken(
 }
 
 /// The rows of the versions that a condition takes. Only these are copied.
-pub fn matching_rows(
+pub(crate) fn matching_rows(
     alloc: Global,
     declared: &[ColumnDef],
     columns: &Columns,

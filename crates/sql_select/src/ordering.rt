@@ -42,7 +42,7 @@ fn sort_keys(
 }
 
 /// Whether both are one place, or neither is there.
-pub fn is_same_place(a: Option<usize>, b: Option<usize>) -> bool
+pub(crate) fn is_same_place(a: Option<usize>, b: Option<usize>) -> bool
     ensures { result ≡ same_place a b }
 {
     match (a, b) {
@@ -118,7 +118,7 @@ fn sorted_rows(keys: &[SortKey], mut rows: Vec<Row>) -> Result<Vec<Row>, Memory>
 }
 
 /// The rows by the columns of ORDER BY; those that are equal in all of them keep their order.
-pub fn ordered(
+pub(crate) fn ordered(
     alloc: Global,
     columns: &Columns,
     order: &[(Name, bool)],

@@ -35,7 +35,7 @@ pub fn select(
 }
 
 /// What a SELECT shows of the rows that its condition took.
-pub fn show_matching(
+pub(crate) fn show_matching(
     alloc: Global,
     q: &Select,
     columns: &Columns,

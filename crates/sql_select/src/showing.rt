@@ -17,7 +17,7 @@ use sql_value::{Refusal, Value};
 use std::alloc::Global;
 
 /// The value of a row at a place, or else NULL.
-pub fn value_in<'a>(place: Option<usize>, row: &'a [Value], null: &'a Value) -> &'a Value
+pub(crate) fn value_in<'a>(place: Option<usize>, row: &'a [Value], null: &'a Value) -> &'a Value
     requires { null.now ≡ Null }
     ensures { result.now ≡ spec.value_in place row.now }
 {
@@ -139,7 +139,7 @@ fn projected(
 
 /// What a SELECT shows of the rows that it took; `*` shows the first `shown` columns without the dropped ones, which are
 /// given by their ordinals.
-pub fn apply_select_list(
+pub(crate) fn apply_select_list(
     alloc: Global,
     columns: &Columns,
     dropped: &[u16],

@@ -124,7 +124,7 @@ fn each_aggregate(
 }
 
 /// The row of the aggregates, each over all rows.
-pub fn aggregates(
+pub(crate) fn aggregates(
     alloc: Global,
     columns: &Columns,
     aggs: &[Agg],

@@ -1,2 +1,2 @@
-pub mod Greatest
-pub mod Started
+mod Greatest
+mod Started

@@ -57,7 +57,7 @@ fn table_row_with(alloc: Global, change: u64, kind: u64, def: &TableDef) -> Resu
 
 /// The row of a new table.
 #[tactic(auto, unfolding(spec_model::specs::SystemTables::table_row))]
-pub fn table_row(alloc: Global, def: &TableDef) -> Result<Row, Memory>
+pub(crate) fn table_row(alloc: Global, def: &TableDef) -> Result<Row, Memory>
     ensures { IfOk result (λ row. row ≡ spec.table_row def.now) }
 {
     table_row_with(alloc, 0, kind_code(def.kind), def)
@@ -73,7 +73,7 @@ fn kind_in_row(def: &TableDef) -> u64
 
 /// The row of a table as this change leaves it.
 #[tactic(auto, unfolding(spec_model::specs::SystemTables::changed_table_row))]
-pub fn changed_table_row(alloc: Global, change: u64, def: &TableDef) -> Result<Row, Memory>
+pub(crate) fn changed_table_row(alloc: Global, change: u64, def: &TableDef) -> Result<Row, Memory>
     ensures { IfOk result (λ row. row ≡ spec.changed_table_row change def.now) }
 {
     table_row_with(alloc, change, kind_in_row(def), def)
@@ -113,7 +113,7 @@ fn column_row_with(
 }
 
 /// The row of the column with this ordinal, of a new table.
-pub fn column_row(
+pub(crate) fn column_row(
     alloc: Global,
     id: TableId,
     ordinal: usize,
@@ -136,7 +136,7 @@ fn position_in_row(def: &TableDef, ordinal: usize, column: &ColumnDef) -> i128
 
 /// The row of the column with this ordinal, as this change leaves it.
 #[tactic(auto, unfolding(spec_model::specs::SystemTables::changed_column_row))]
-pub fn changed_column_row(
+pub(crate) fn changed_column_row(
     alloc: Global,
     change: u64,
     def: &TableDef,
@@ -158,7 +158,7 @@ fn index_item(others: usize, place: usize) -> Value
 }
 
 /// The row of the part at this place, counted from 0, of a new index of the table.
-pub fn index_row(
+pub(crate) fn index_row(
     alloc: Global,
     def: &TableDef,
     name: &Name,

@@ -1,2 +1,2 @@
-pub mod Closing
-pub mod Places
+mod Closing
+mod Places

@@ -1,14 +1,14 @@
-pub mod Asking
-pub mod Carrying
-pub mod Creates
-pub mod DefsKept
-pub mod Entering
-pub mod Fitting
-pub mod Named
-pub mod NewRows
-pub mod NotedLeaves
-pub mod Placing
-pub mod Redefining
-pub mod Shown
-pub mod Taking
-pub mod Visits
+mod Asking
+mod Carrying
+mod Creates
+mod DefsKept
+mod Entering
+mod Fitting
+mod Named
+mod NewRows
+mod NotedLeaves
+mod Placing
+mod Redefining
+mod Shown
+mod Taking
+mod Visits

@@ -1,7 +1,7 @@
-pub mod Found
-pub mod Kept
-pub mod Known
-pub mod Encoded
+mod Found
+mod Kept
+mod Known
+mod Encoded
 pub use Rattle.format_image_rows.proofs.Entries
 pub use Rattle.law_server.proofs.CellsShow
 pub use Rattle.law_server.proofs.Servers

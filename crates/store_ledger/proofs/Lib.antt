@@ -1,5 +1,5 @@
 pub mod Closings
-pub mod Counted
-pub mod Issuing
-pub mod Newest
+mod Counted
+mod Issuing
+mod Newest
 pub mod OfJournal

@@ -1,8 +1,8 @@
-pub mod Barriers
-pub mod Changes
-pub mod Holders
-pub mod Indexes
-pub mod Kept
-pub mod Orders
-pub mod Places
+mod Barriers
+mod Changes
+mod Holders
+mod Indexes
+mod Kept
+mod Orders
+mod Places
 pub mod Steps

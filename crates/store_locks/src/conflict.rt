@@ -13,7 +13,7 @@ use sql_types::{Hold, LockRequest, Mode};
 
 /// The least holder that bars the want.
 #[tactic(auto, using(crate::proofs::Barriers::barrier_none, crate::proofs::Barriers::blocked_more, crate::proofs::Barriers::passed_more))]
-pub fn barrier(
+pub(crate) fn barrier(
     holds: &[Hold],
     places: &[usize],
     tx: TxId,
@@ -58,7 +58,12 @@ fn bars(tx: TxId, request: &LockRequest, hold: &Hold) -> bool
 
 /// Whether one of the holds is the transaction's, on the item that it wants and in the same mode.
 #[tactic(auto, using(crate::proofs::Barriers::none_answers, crate::proofs::Barriers::answers_more, crate::proofs::Barriers::answers_there))]
-pub fn already_holds(holds: &[Hold], places: &[usize], tx: TxId, request: &LockRequest) -> bool
+pub(crate) fn already_holds(
+    holds: &[Hold],
+    places: &[usize],
+    tx: TxId,
+    request: &LockRequest,
+) -> bool
     requires { All (λ place. place < length holds.now) places.now }
     ensures { result ≡ list_any (answers tx request.now) (picked holds.now places.now) }
 {

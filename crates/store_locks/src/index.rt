@@ -26,7 +26,7 @@ fn item_is_before(holds: &[Hold], place: usize, item: &Item) -> bool
 }
 
 /// Where the places of the holds on an item begin, by halving.
-pub fn first_at(holds: &[Hold], places: &[usize], item: &Item) -> usize
+pub(crate) fn first_at(holds: &[Hold], places: &[usize], item: &Item) -> usize
     requires { Indexed holds.now places.now }
     ensures bound { result ≤ length places.now }
     ensures before { (k : ℕ) → k < result → item_is_before holds.now item.now (get_or places.now k 0) ≡ true }
@@ -62,7 +62,7 @@ fn end_at(holds: &[Hold], places: &[usize], item: &Item, from: usize) -> usize
 }
 
 /// The places of the holds on an item.
-pub fn places_of<'a>(holds: &[Hold], places: &'a [usize], item: &Item) -> &'a [usize]
+pub(crate) fn places_of<'a>(holds: &[Hold], places: &'a [usize], item: &Item) -> &'a [usize]
     requires { Indexed holds.now places.now }
     ensures within { All (λ place. place < length holds.now) result.now }
     ensures covers { Covers holds.now item.now result.now }
@@ -73,7 +73,7 @@ pub fn places_of<'a>(holds: &[Hold], places: &'a [usize], item: &Item) -> &'a [u
 }
 
 /// Whether the hold at a place is another transaction's.
-pub fn stays(holds: &[Hold], place: usize, tx: TxId) -> bool
+pub(crate) fn stays(holds: &[Hold], place: usize, tx: TxId) -> bool
     ensures { result ≡ stays (is_foreign tx) holds.now place }
 {
     match holds.get(place) {
@@ -83,7 +83,7 @@ pub fn stays(holds: &[Hold], place: usize, tx: TxId) -> bool
 }
 
 /// Makes room to note where one more hold moves than there are.
-pub fn make_room(moved: &mut Vec<usize>, holds: usize) -> Result<(), Memory>
+pub(crate) fn make_room(moved: &mut Vec<usize>, holds: usize) -> Result<(), Memory>
     requires { holds ≤ length moved.old.items }
     ensures ok { OnOk result (holds < length moved.new.items) }
     ensures kept { length moved.old.items ≤ length moved.new.items }
@@ -95,7 +95,7 @@ pub fn make_room(moved: &mut Vec<usize>, holds: usize) -> Result<(), Memory>
 }
 
 /// Notes for each hold its place when the transaction's are gone.
-pub fn note_moves(holds: &[Hold], moved: &mut [usize], tx: TxId)
+pub(crate) fn note_moves(holds: &[Hold], moved: &mut [usize], tx: TxId)
     requires { length holds.now ≤ length moved.old }
     ensures len { length moved.new ≡ length moved.old }
     ensures moves { (place : ℕ) → place < length holds.now
@@ -111,7 +111,7 @@ pub fn note_moves(holds: &[Hold], moved: &mut [usize], tx: TxId)
 }
 
 /// Puts in the place of each place that to which its hold moves.
-pub fn move_places(places: &mut [usize], moved: &[usize])
+pub(crate) fn move_places(places: &mut [usize], moved: &[usize])
     requires { All (λ place. place < length moved.now) places.old }
     ensures { places.new ≡ map (λ place. get_or moved.now place 0) places.old }
 {

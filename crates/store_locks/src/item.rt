@@ -11,7 +11,7 @@ use std::alloc::Global;
 use std::cmp::Ordering;
 
 /// An equal one.
-pub fn copy_of_item(alloc: Global, item: &Item) -> Result<Item, Memory>
+pub(crate) fn copy_of_item(alloc: Global, item: &Item) -> Result<Item, Memory>
     ensures { IfOk result (λ copy. copy ≡ item.now) }
 {
     match item {
@@ -32,7 +32,7 @@ fn copy_of_key(alloc: Global, key: &Key) -> Result<Key, Memory>
 
 /// The order of items: the whole, and then the keys in theirs.
 #[tactic(auto, unfolding(crate::specs::Items::item_cmp, spec_model::specs::Keys::key_cmp))]
-pub fn compare_items(a: &Item, b: &Item) -> Ordering
+pub(crate) fn compare_items(a: &Item, b: &Item) -> Ordering
     ensures { result ≡ item_cmp a.now b.now }
 {
     match (a, b) {
@@ -52,7 +52,7 @@ fn compare_keys(a: &Key, b: &Key) -> Ordering
 
 /// Whether they are one.
 #[tactic(auto, unfolding(spec_model::specs::Locks::same_item, spec_model::specs::Keys::same_key))]
-pub fn same_item(a: &Item, b: &Item) -> bool
+pub(crate) fn same_item(a: &Item, b: &Item) -> bool
     ensures { result ≡ same_item a.now b.now }
 {
     match (a, b) {

@@ -26,7 +26,7 @@ fn agree(a: Mode, b: Mode) -> bool
 }
 
 // The modes in their order.
-pub fn rank(mode: Mode) -> u8
+pub(crate) fn rank(mode: Mode) -> u8
     ensures { result ≡ rank mode }
 {
     match mode {

@@ -1,5 +1,5 @@
-pub mod Edits
-pub mod Packed
-pub mod Carried
-pub mod Filled
-pub mod Halving
+mod Edits
+mod Packed
+mod Carried
+mod Filled
+mod Halving

@@ -10,7 +10,7 @@ use base_types::Memory;
 use std::alloc::Global;
 
 /// Makes so many pieces of them, where there are fewer. For want of memory there may be some more.
-pub fn add_pieces(pieces: &mut Vec<Piece>, alloc: Global, count: usize) -> Result<(), Memory>
+pub(crate) fn add_pieces(pieces: &mut Vec<Piece>, alloc: Global, count: usize) -> Result<(), Memory>
     requires packed { IsPacked PIECE pieces.old.items }
     ensures packed { IsPacked PIECE pieces.new.items }
     ensures list { flat pieces.new.items ≡ flat pieces.old.items }
@@ -38,7 +38,7 @@ fn add_piece(pieces: &mut Vec<Piece>, alloc: Global) -> Result<(), Memory>
 }
 
 /// Puts a start at this place of the list. The last piece has room.
-pub fn put(pieces: &mut [Piece], place: usize, start: Entry)
+pub(crate) fn put(pieces: &mut [Piece], place: usize, start: Entry)
     requires packed { IsPacked PIECE pieces.old }
     requires within { place ≤ length (flat pieces.old) }
     requires room { length (flat pieces.old) + 1 ≤ PIECE * length pieces.old }
@@ -52,7 +52,7 @@ pub fn put(pieces: &mut [Piece], place: usize, start: Entry)
 }
 
 /// Takes out the start at this place of the list.
-pub fn take_out(pieces: &mut [Piece], place: usize)
+pub(crate) fn take_out(pieces: &mut [Piece], place: usize)
     requires packed { IsPacked PIECE pieces.old }
     requires within { place < length (flat pieces.old) }
     ensures packed { IsPacked PIECE pieces.new }

@@ -1,27 +1,27 @@
-pub mod Asking
-pub mod Between
-pub mod Built
-pub mod ByKey
-pub mod Carrying
-pub mod Done
-pub mod Ends
-pub mod Events
-pub mod Found
-pub mod InOrder
-pub mod Keeping
-pub mod Last
-pub mod LeavesMade
-pub mod Moves
+mod Asking
+mod Between
+mod Built
+mod ByKey
+mod Carrying
+mod Done
+mod Ends
+mod Events
+mod Found
+mod InOrder
+mod Keeping
+mod Last
+mod LeavesMade
+mod Moves
 pub mod Noted
-pub mod OfKey
-pub mod OneMore
-pub mod Passing
-pub mod Rooms
-pub mod RowsMade
-pub mod Splits
-pub mod Steps
-pub mod Stretches
-pub mod UndoSteps
-pub mod Undone
-pub mod Whole
-pub mod Written
+mod OfKey
+mod OneMore
+mod Passing
+mod Rooms
+mod RowsMade
+mod Splits
+mod Steps
+mod Stretches
+mod UndoSteps
+mod Undone
+mod Whole
+mod Written

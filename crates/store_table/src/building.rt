@@ -19,7 +19,7 @@ use std::alloc::Global;
 use store_order::Starts;
 
 /// The index of these versions by the columns with these ordinals, with room for so many starts.
-pub fn new_index(
+pub(crate) fn new_index(
     alloc: Global,
     ordinals: &[u16],
     key: &[usize],
@@ -99,7 +99,7 @@ fn new_indexes(
 }
 
 /// The key order, the ends and the indexes of these definitions, each with room for all versions.
-pub fn new_orders(
+pub(crate) fn new_orders(
     alloc: Global,
     key: &[usize],
     defs: &[IndexDef],

@@ -64,7 +64,7 @@ fn count_up_to(places: &[usize], versions: &[Version], order: &Starts, key: &[Va
 }
 
 /// Where the versions of a key stand in the key order of these versions.
-pub fn key_range(
+pub(crate) fn key_range(
     places: &[usize],
     versions: &[Version],
     order: &Starts,
@@ -119,7 +119,7 @@ fn count_below_row(places: &[usize], versions: &[Version], order: &Starts, row: 
 }
 
 /// Whether some version in key order has the key of the row.
-pub fn key_exists(places: &[usize], versions: &[Version], order: &Starts, row: &Row) -> bool
+pub(crate) fn key_exists(places: &[usize], versions: &[Version], order: &Starts, row: &Row) -> bool
     requires rising { Rising versions.now }
     requires order { order.now.list ≡ starts_of (in_order [] places.now versions.now) }
     ensures { result ≡ list_any (spec.is_of_key places.now (key_at places.now row.now))

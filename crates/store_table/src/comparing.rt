@@ -33,7 +33,7 @@ fn compare_keys(key: &[usize], a: &Version, b: &Version) -> Ordering
 }
 
 /// The order of the rows of an index: by its columns, and then by key.
-pub fn compare_rows(ordinals: &[u16], key: &[usize], a: &Version, b: &Version) -> Ordering
+pub(crate) fn compare_rows(ordinals: &[u16], key: &[usize], a: &Version, b: &Version) -> Ordering
     ensures { result ≡ row_cmp ordinals.now key.now a.now b.now }
 {
     match compare_columns(ordinals, a, b) {
@@ -49,7 +49,7 @@ fn compare_starts(a: &Version, b: &Version) -> Ordering
 }
 
 /// Whether `a` comes before `b` in the order of an index. Versions with one row are ordered by their starts.
-pub fn comes_before(ordinals: &[u16], key: &[usize], a: &Version, b: &Version) -> bool
+pub(crate) fn comes_before(ordinals: &[u16], key: &[usize], a: &Version, b: &Version) -> bool
     ensures { result ≡ comes_before ordinals.now key.now b.now a.now }
 {
     match compare_rows(ordinals, key, a, b) {
@@ -60,7 +60,7 @@ pub fn comes_before(ordinals: &[u16], key: &[usize], a: &Version, b: &Version) -
 }
 
 /// Whether the row of `a` comes before that of `b` in an index.
-pub fn has_row_below(ordinals: &[u16], key: &[usize], a: &Version, b: &Version) -> bool
+pub(crate) fn has_row_below(ordinals: &[u16], key: &[usize], a: &Version, b: &Version) -> bool
     ensures { result ≡ has_row_below ordinals.now key.now b.now a.now }
 {
     compare_rows(ordinals, key, a, b).is_lt()

@@ -46,7 +46,7 @@ fn place_of(ends: &[Ending], ending: &Ending) -> usize
 }
 
 /// Puts an end in its place. Takes no memory.
-pub fn add_ending(ends: &mut Vec<Ending>, ending: Ending)
+pub(crate) fn add_ending(ends: &mut Vec<Ending>, ending: Ending)
     requires sorted { (all : List SpecEnding) × (ends.old.items ≡ sorted ending_cmp all) }
     requires room { length ends.old.items < vec_capacity ends.old }
     ensures items { ends.new.items ≡ inserted ending_cmp ending ends.old.items }
@@ -57,7 +57,7 @@ pub fn add_ending(ends: &mut Vec<Ending>, ending: Ending)
 }
 
 /// Takes out an end, which is there.
-pub fn take_ending(ends: &mut Vec<Ending>, ending: Ending)
+pub(crate) fn take_ending(ends: &mut Vec<Ending>, ending: Ending)
     requires sorted { (all : List SpecEnding) × (ends.old.items ≡ sorted ending_cmp all) }
     requires there { (rest : List SpecEnding) × (ends.old.items ≡ inserted ending_cmp ending rest) }
     ensures items { (rest : List SpecEnding) → ends.old.items ≡ inserted ending_cmp ending rest
@@ -75,7 +75,7 @@ fn is_up_to(ending: &Ending, tx: TxId) -> bool
 }
 
 /// The last end that the transaction made, where its number is `seq` or above.
-pub fn last_ending(ends: &[Ending], tx: TxId, seq: u64) -> Option<Ending>
+pub(crate) fn last_ending(ends: &[Ending], tx: TxId, seq: u64) -> Option<Ending>
     requires { (all : List SpecEnding) × (ends.now ≡ sorted ending_cmp all) }
     ensures some { IfSome result (λ e. Contains ends.now e × (undo.is_undone tx seq e.end ≡ true)) }
     ensures none { IfNone result (AllByRecursion (λ e. undo.is_undone tx seq e.end ≡ false) ends.now) }
@@ -89,7 +89,7 @@ pub fn last_ending(ends: &[Ending], tx: TxId, seq: u64) -> Option<Ending>
 }
 
 /// Makes room for so many ends.
-pub fn reserve_ends(ends: &mut Vec<Ending>, count: usize) -> Result<(), Memory>
+pub(crate) fn reserve_ends(ends: &mut Vec<Ending>, count: usize) -> Result<(), Memory>
     ensures items { ends.new.items ≡ ends.old.items }
     ensures room { vec_capacity ends.old ≤ vec_capacity ends.new }
     ensures ok { OnOk result (count ≤ vec_capacity ends.new) }
@@ -130,7 +130,7 @@ fn sort_endings(ends: &mut Vec<Ending>) -> Result<(), Memory>
 }
 
 /// The ends of these versions, sorted, with room for one of each version.
-pub fn endings_in(alloc: Global, versions: &[Version]) -> Result<Vec<Ending>, Memory>
+pub(crate) fn endings_in(alloc: Global, versions: &[Version]) -> Result<Vec<Ending>, Memory>
     ensures items { IfOk result (λ ends. ends.items ≡ endings_in versions.now) }
     ensures room { IfOk result (λ ends. length versions.now ≤ vec_capacity ends) }
 {

@@ -8,7 +8,7 @@ use sql_types::{EventId, Version};
 
 /// About where the event's version stands: as far between the first version and the last one as its
 /// transaction is between theirs.
-pub fn guess_place(versions: &[Version], at: EventId) -> usize
+pub(crate) fn guess_place(versions: &[Version], at: EventId) -> usize
     requires { 0 < length versions.now }
     ensures { result < length versions.now }
 {
@@ -20,14 +20,14 @@ pub fn guess_place(versions: &[Version], at: EventId) -> usize
     (guess.unwrap_or(0) as usize).min(last)
 }
 
-pub fn starts_before(version: &Version, at: EventId) -> bool
+pub(crate) fn starts_before(version: &Version, at: EventId) -> bool
     ensures { result ≡ starts_before at version.now }
 {
     version.start < at
 }
 
 /// The place, which is this one or further up, by steps that double and then by halving.
-pub fn place_above(versions: &[Version], at: EventId, from: usize) -> usize
+pub(crate) fn place_above(versions: &[Version], at: EventId, from: usize) -> usize
     requires rising { Rising versions.now }
     requires from { from ≤ place at versions.now }
     ensures { result ≡ place at versions.now }
@@ -44,7 +44,7 @@ pub fn place_above(versions: &[Version], at: EventId, from: usize) -> usize
 }
 
 /// The place, which is this one or further down, by steps that double and then by halving.
-pub fn place_below(versions: &[Version], at: EventId, from: usize) -> usize
+pub(crate) fn place_below(versions: &[Version], at: EventId, from: usize) -> usize
     requires rising { Rising versions.now }
     requires from { place at versions.now ≤ from }
     requires within { from ≤ length versions.now }

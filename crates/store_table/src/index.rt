@@ -23,7 +23,7 @@ pub struct Index {
 }
 
 /// Puts the start of a version in its place. Takes no memory.
-pub fn add_start(index: &mut Index, key: &[usize], versions: &[Version], version: &Version)
+pub(crate) fn add_start(index: &mut Index, key: &[usize], versions: &[Version], version: &Version)
     requires rising { Rising versions.now }
     requires order { IsOf key.now versions.now index.old }
     requires room { HasCapacity (length (live versions.now) + 1) index.old }
@@ -61,7 +61,7 @@ fn place_of_live(index: &Index, key: &[usize], versions: &[Version], place: usiz
 }
 
 /// Takes out the start of the version at this place, which stands.
-pub fn take_start(index: &mut Index, key: &[usize], versions: &[Version], place: usize)
+pub(crate) fn take_start(index: &mut Index, key: &[usize], versions: &[Version], place: usize)
     requires rising { Rising versions.now }
     requires order { IsOf key.now versions.now index.old }
     requires within { place < length versions.now }
@@ -75,7 +75,7 @@ pub fn take_start(index: &mut Index, key: &[usize], versions: &[Version], place:
 }
 
 /// Puts the start of a version in its place in each index. Takes no memory.
-pub fn add_start_to_all(
+pub(crate) fn add_start_to_all(
     indexes: &mut Vec<Index>,
     key: &[usize],
     versions: &[Version],
@@ -95,7 +95,7 @@ pub fn add_start_to_all(
 }
 
 /// Takes out the start of the version at this place, which stands, from each index.
-pub fn take_start_from_all(
+pub(crate) fn take_start_from_all(
     indexes: &mut Vec<Index>,
     key: &[usize],
     versions: &[Version],
@@ -116,7 +116,7 @@ pub fn take_start_from_all(
 }
 
 /// Makes room for so many starts.
-pub fn reserve_index(alloc: Global, index: &mut Index, count: usize) -> Result<(), Memory>
+pub(crate) fn reserve_index(alloc: Global, index: &mut Index, count: usize) -> Result<(), Memory>
     ensures same { index_seen index.new ≡ index_seen index.old }
     ensures room { (n : ℕ) → HasCapacity n index.old → HasCapacity n index.new }
     ensures ok { OnOk result (HasCapacity count index.new) }
@@ -125,7 +125,11 @@ pub fn reserve_index(alloc: Global, index: &mut Index, count: usize) -> Result<(
 }
 
 /// Makes room for so many starts in each index. For want of memory some of them may have got room.
-pub fn reserve_indexes(alloc: Global, indexes: &mut Vec<Index>, count: usize) -> Result<(), Memory>
+pub(crate) fn reserve_indexes(
+    alloc: Global,
+    indexes: &mut Vec<Index>,
+    count: usize,
+) -> Result<(), Memory>
     ensures same { map index_seen indexes.new.items ≡ map index_seen indexes.old.items }
     ensures room { (n : ℕ) → AllByRecursion (HasCapacity n) indexes.old.items
         → AllByRecursion (HasCapacity n) indexes.new.items }
@@ -138,7 +142,12 @@ pub fn reserve_indexes(alloc: Global, indexes: &mut Vec<Index>, count: usize) ->
 }
 
 /// How many rows of the index come before that of this version.
-pub fn rows_below(index: &Index, key: &[usize], versions: &[Version], version: &Version) -> usize
+pub(crate) fn rows_below(
+    index: &Index,
+    key: &[usize],
+    versions: &[Version],
+    version: &Version,
+) -> usize
     requires rising { Rising versions.now }
     requires order { IsOf key.now versions.now index.now }
     ensures { result ≡ prefix_len (has_row_below index.now.ordinals key.now version.now)

@@ -15,14 +15,14 @@ const BYTES: usize = 7;
 /// The lead of a row: that of its first two values in the order of the index, of its columns and then of the
 /// key. Where the values are of one type, it mostly doesn't fall from one row to the next. No clause says so:
 /// it is a guess.
-pub fn lead_of<R: Valued>(ordinals: &[u16], key: &[usize], row: &R) -> Lead {
+pub(crate) fn lead_of<R: Valued>(ordinals: &[u16], key: &[usize], row: &R) -> Lead {
     let first = value_in_order(ordinals, key, row, 0);
     let second = value_in_order(ordinals, key, row, 1);
     lead_of_values(first, second)
 }
 
 /// The lead of a key in key order.
-pub fn lead_of_key(key: &[Value]) -> Lead {
+pub(crate) fn lead_of_key(key: &[Value]) -> Lead {
     lead_of_values(key.first(), key.get(1))
 }
 

@@ -77,7 +77,7 @@ fn leaf_of_change(
 
 /// The leaves of the changes, one after another, as the events of the transaction that have the numbers from
 /// `seq` on. The versions that end are found by a guess and halving.
-pub fn leaves_of(
+pub(crate) fn leaves_of(
     alloc: Global,
     table: TableId,
     tx: TxId,

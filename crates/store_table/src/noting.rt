@@ -11,7 +11,7 @@ use base_types::{Blob, TableId};
 use store_tx::TxCtx;
 
 /// Adds the leaves to the tree of the table, one after another, and counts them. Takes no memory.
-pub fn note_all<H: Hash32>(ctx: &mut TxCtx<H>, table: TableId, leaves: &[Blob])
+pub(crate) fn note_all<H: Hash32>(ctx: &mut TxCtx<H>, table: TableId, leaves: &[Blob])
     requires { MayNoteAll H.digest table (length leaves.now) ctx.old }
     ensures { (h : H) (o : OpenTransaction) → Represents H.digest h ctx.old o
         → Represents H.digest h ctx.new

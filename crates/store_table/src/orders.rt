@@ -25,7 +25,7 @@ pub struct Orders {
 }
 
 /// Puts a version that stands in its place in the key order and in each index. Takes no memory.
-pub fn add_live(orders: &mut Orders, key: &[usize], versions: &[Version], version: &Version)
+pub(crate) fn add_live(orders: &mut Orders, key: &[usize], versions: &[Version], version: &Version)
     requires rising { Rising versions.now }
     requires are_indexed { IndexesAreOf key.now versions.now orders.old }
     requires room { HaveCapacity (length (live versions.now) + 1) orders.old }
@@ -39,7 +39,7 @@ pub fn add_live(orders: &mut Orders, key: &[usize], versions: &[Version], versio
 }
 
 /// Takes out what the orders have of the version at this place.
-pub fn take_version(orders: &mut Orders, key: &[usize], versions: &[Version], place: usize)
+pub(crate) fn take_version(orders: &mut Orders, key: &[usize], versions: &[Version], place: usize)
     requires rising { Rising versions.now }
     requires are { AreOf key.now versions.now orders.old }
     requires within { place < length versions.now }
@@ -81,7 +81,7 @@ fn take_ended(orders: &mut Orders, key: &[usize], versions: &[Version], place: u
 }
 
 /// Makes room for so many starts. For want of memory some of the orders may have got room.
-pub fn reserve_orders(alloc: Global, orders: &mut Orders, count: usize) -> Result<(), Memory>
+pub(crate) fn reserve_orders(alloc: Global, orders: &mut Orders, count: usize) -> Result<(), Memory>
     ensures same { SeenAlike orders.old orders.new }
     ensures room { (n : ℕ) → HaveCapacity n orders.old → HaveCapacity n orders.new }
     ensures ok { OnOk result (HaveCapacity count orders.new) }

@@ -19,7 +19,7 @@ pub struct OrderRange {
 }
 
 /// The versions of the starts in a stretch of an order, each found by a guess and halving.
-pub fn versions_of<'a>(
+pub(crate) fn versions_of<'a>(
     alloc: Global,
     versions: &'a [Version],
     order: &Starts,

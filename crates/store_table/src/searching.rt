@@ -20,7 +20,7 @@ use store_order::Starts;
 
 /// Where the version stands that the event started, or would stand, among versions by rising start. By a
 /// guess and halving.
-pub fn place_of_start(versions: &[Version], at: EventId) -> usize
+pub(crate) fn place_of_start(versions: &[Version], at: EventId) -> usize
     requires { Rising versions.now }
     ensures value { result ≡ place at versions.now }
     ensures bound { result ≤ length versions.now }
@@ -43,7 +43,7 @@ fn compare_start(version: &Version, at: EventId) -> Ordering
 }
 
 /// The version that the event started.
-pub fn version_at(versions: &[Version], start: EventId) -> Option<&Version>
+pub(crate) fn version_at(versions: &[Version], start: EventId) -> Option<&Version>
     requires { Rising versions.now }
     ensures { option_copied result ≡ spec.version_at start versions.now }
 {
@@ -74,7 +74,7 @@ fn start_comes_before(
 }
 
 /// Whether the row of the version of this start comes before that of another one in an index.
-pub fn start_has_row_below(
+pub(crate) fn start_has_row_below(
     ordinals: &[u16],
     key: &[usize],
     versions: &[Version],
@@ -92,7 +92,7 @@ pub fn start_has_row_below(
 }
 
 /// Where the version stands in the order of an index, or would stand. The index is of these versions.
-pub fn place_in_order(
+pub(crate) fn place_in_order(
     ordinals: &[u16],
     key: &[usize],
     versions: &[Version],
@@ -112,7 +112,7 @@ pub fn place_in_order(
 }
 
 /// Whether an event is one of the transaction, with this number or above.
-pub fn is_undone(event: EventId, tx: TxId, seq: u64) -> bool
+pub(crate) fn is_undone(event: EventId, tx: TxId, seq: u64) -> bool
     ensures { result ≡ undo.is_undone tx seq event }
 {
     event.0 == tx && seq <= event.1
@@ -125,7 +125,7 @@ fn is_up_to(version: &Version, tx: TxId) -> bool
 }
 
 /// Where the last version stands that the transaction started, where its number is `seq` or above.
-pub fn last_start(versions: &[Version], tx: TxId, seq: u64) -> Option<usize>
+pub(crate) fn last_start(versions: &[Version], tx: TxId, seq: u64) -> Option<usize>
     requires { Rising versions.now }
     ensures some { IfSome result (λ place. (place < length versions.now)
         × HoldsAt (λ v. undo.is_undone tx seq v.start ≡ true) versions.now place) }

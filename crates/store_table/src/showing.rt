@@ -14,7 +14,7 @@ use sql_value::Refusal;
 use std::alloc::Global;
 
 /// The rows that a SELECT shows, or why it is refused.
-pub fn read_rows(
+pub(crate) fn read_rows(
     alloc: Global,
     store: &VersionStore,
     table: &KeyedTable,

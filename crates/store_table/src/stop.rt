@@ -38,7 +38,7 @@ fn table_err_of(e: &LockErr) -> TableErr
 }
 
 /// What stops a transaction that asks for locks, if something does.
-pub fn granted_or_err(asked: Result<bool, LockErr>) -> Result<(), TableErr>
+pub(crate) fn granted_or_err(asked: Result<bool, LockErr>) -> Result<(), TableErr>
     ensures { result ≡ granted_or_err asked }
 {
     match asked {

@@ -33,7 +33,7 @@ pub struct StatementChanges {
 /// What the statement is to do, as the events of the transaction that have the numbers from `seq` on; or why
 /// it is refused. NoMemory for want of memory, or where the numbers have no room.
 #[tactic(auto, using(crate::proofs::Written::worked_out, crate::proofs::Written::all_made))]
-pub fn work_out(
+pub(crate) fn work_out(
     alloc: Global,
     store: &VersionStore,
     tx: TxId,

@@ -27,7 +27,7 @@ use store_tx::TxCtx;
 /// Works out what the statement is to do, makes all the room that it takes, and only then does it; the answer
 /// is the number of rows that it replies. After a refusal the versions are as they were, and the context is of
 /// the same transaction as before.
-pub fn change_rows<H: Hash32>(
+pub(crate) fn change_rows<H: Hash32>(
     alloc: Global,
     store: &mut VersionStore,
     ctx: &mut TxCtx<H>,

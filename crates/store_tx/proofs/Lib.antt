@@ -1,8 +1,8 @@
-pub mod OpenSavepoints
+mod OpenSavepoints
 pub mod Leaves
-pub mod Marks
-pub mod ReadOnly
-pub mod Represented
-pub mod RootsMade
-pub mod Sorting
-pub mod Trees
+mod Marks
+mod ReadOnly
+mod Represented
+mod RootsMade
+mod Sorting
+mod Trees

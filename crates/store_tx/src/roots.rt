@@ -50,7 +50,7 @@ fn add_root<H: Hash32>(tree: &TableTree<H>, roots: &mut Vec<(TableId, Hash)>) ->
 }
 
 /// Whether no tree has a leaf.
-pub fn have_no_leaf<H: Hash32>(trees: &[TableTree<H>]) -> bool
+pub(crate) fn have_no_leaf<H: Hash32>(trees: &[TableTree<H>]) -> bool
     ensures { (h : H) (model : List Tree) → Differ (tables_of trees.now)
         → Differ (map (λ t. t.table) model) → TreesHold H.digest h trees.now model
         → result ≡ list_all (λ t. is_empty t.leaves) model }
@@ -64,7 +64,7 @@ pub fn have_no_leaf<H: Hash32>(trees: &[TableTree<H>]) -> bool
 }
 
 /// The root of each tree that has a leaf, by rising table.
-pub fn roots_of<H: Hash32>(
+pub(crate) fn roots_of<H: Hash32>(
     alloc: Global,
     trees: &[TableTree<H>],
 ) -> Result<Items<(TableId, Hash)>, Memory>

@@ -23,7 +23,7 @@ fn is_named(savepoint: &Savepoint, name: &Name) -> bool
 }
 
 /// How many savepoints there are up to the most recent one of this name: 0 where none has it.
-pub fn kept_by(savepoints: &[Savepoint], name: &Name) -> usize
+pub(crate) fn kept_by(savepoints: &[Savepoint], name: &Name) -> usize
     ensures within { result ≤ length savepoints.now }
     ensures kept { (h : List ℕ → List ℕ) (tables : List ℕ) (open_savepoints : List OpenSavepoint)
         → RepresentSavepoints h tables savepoints.now open_savepoints

@@ -28,7 +28,7 @@ fn place_of<H: Hash32>(trees: &[TableTree<H>], table: TableId) -> Option<usize>
 
 /// Makes a tree for the table, behind the others, where it has none. After want of memory each table has
 /// what it had.
-pub fn open<H: Hash32>(
+pub(crate) fn open<H: Hash32>(
     hasher: H,
     trees: &mut Vec<TableTree<H>>,
     table: TableId,
@@ -50,7 +50,7 @@ pub fn open<H: Hash32>(
 }
 
 /// Adds a leaf to the tree of the table, which is to be open.
-pub fn push_leaf<H: Hash32>(trees: &mut Vec<TableTree<H>>, table: TableId, leaf: &[u8])
+pub(crate) fn push_leaf<H: Hash32>(trees: &mut Vec<TableTree<H>>, table: TableId, leaf: &[u8])
     requires open { (f : SpecFrontier H) × (tree_of table trees.old.items ≡ Some f) × MayAddLeaf H.digest f }
     ensures here { (h : H) (leaves : List (List ℕ)) → IsTree H.digest h (tree_of table trees.old.items) leaves
         → IsTree H.digest h (tree_of table trees.new.items) (leaves ++ leaf.now ∷ []) }
@@ -63,7 +63,7 @@ pub fn push_leaf<H: Hash32>(trees: &mut Vec<TableTree<H>>, table: TableId, leaf:
 }
 
 /// A mark of each tree.
-pub fn marks_of<H: Hash32>(
+pub(crate) fn marks_of<H: Hash32>(
     alloc: Global,
     trees: &[TableTree<H>],
 ) -> Result<Vec<FrontierMark>, Memory>
@@ -97,7 +97,11 @@ fn restore<H: Hash32>(hasher: H, tree: &mut Frontier<H>, mark: Option<&FrontierM
 }
 
 /// Takes each tree back to its mark. Those that were opened behind the marked ones have no leaf then.
-pub fn restore_all<H: Hash32>(hasher: H, trees: &mut Vec<TableTree<H>>, marks: &[FrontierMark])
+pub(crate) fn restore_all<H: Hash32>(
+    hasher: H,
+    trees: &mut Vec<TableTree<H>>,
+    marks: &[FrontierMark],
+)
     ensures leaves { (id : ℕ) (leaves before : List (List ℕ))
         → IsTree H.digest hasher (tree_of id trees.old.items) leaves
         → IsMark (H.digest hasher) (mark_of id (tables_of trees.old.items) marks.now) before

@@ -56,7 +56,7 @@ fn total(rows: &[Version]) -> Result<u128, Memory>
 }
 
 /// What is counted of some tables. Want of memory is also answered where a number is too large for its type.
-pub fn count_tables(tables: &[TableRows]) -> Result<TableTotals, Memory>
+pub(crate) fn count_tables(tables: &[TableRows]) -> Result<TableTotals, Memory>
     ensures rows { IfOk result (λ c. c.rows ≡ row_count tables.now) }
     ensures history { IfOk result (λ c. c.history ≡ history_count tables.now) }
     ensures sum { IfOk result (λ c. c.sum ≡ amount tables.now) }
