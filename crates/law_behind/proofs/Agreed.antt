@@ -20,16 +20,16 @@ use Rattle.spec_history.specs.Guards.{Good, AtRest}
 use Rattle.spec_history.specs.Histories.{IsInputOf, AreOf, RanBefore, SetupRan, IsWhole}
 use Rattle.spec_history.proofs.Trace.{next_run}
 use Rattle.spec_history.proofs.Cuts.{good_append, Cut, cut}
-use Rattle.spec_history.proofs.TranscriptsSoFar.{Told, told}
+use Rattle.law_history.proofs.TranscriptsSoFar.{Told, told}
 use Rattle.spec_history.proofs.TransactionLogs.{has_book}
 use Rattle.spec_history.proofs.Rising.{rising, ids_rise, images}
-use Rattle.spec_history.proofs.Owners.{own_of, owned_facts}
-use Rattle.spec_history.proofs.Names.{picks_all}
+use Rattle.law_history.proofs.Owners.{own_of, owned_facts}
+use Rattle.law_history.proofs.Names.{picks_all}
 use Rattle.spec_history.proofs.Issued.{hashes, issued, blocks_rise, digests_counted, FactsFrom, sum_of_transcripts}
 use Rattle.spec_history.proofs.Finding.{find, is_meets}
 use Rattle.spec_history.proofs.Setup.{alive_run}
 use Rattle.spec_history.proofs.Refused.{below_or_nil}
-use Rattle.spec_history.proofs.Agreed.{IsOf, each_view, over_point, pairs, there_is}
+use Rattle.law_history.proofs.Agreed.{IsOf, each_view, over_point, pairs, there_is}
 use Rattle.law_behind.specs.AgreeBehind.{AgreeBehind, CountsThePast, HasItems, IdsAssignedFrom, JournalGoesOn, of_session_behind}
 use Rattle.law_behind.specs.Past.{IsPast, Past, behind, since}
 use Rattle.law_behind.proofs.Counts.{images_above, marks_above, none_behind}

@@ -31,7 +31,7 @@ use Rattle.spec_history.specs.ExactRefusals.{HeldStatement, held_by, held_beside
 use Rattle.spec_history.specs.ByLocks.{IsByLocks, LocksDecide}
 use Rattle.spec_history.proofs.TransactionLogs.{book_of, book_act}
 use Rattle.spec_history.proofs.Grows.{grows}
-use Rattle.spec_history.proofs.Rows.{OpensAre, put_here, put_else, opens_then, opens_answer}
+use Rattle.law_history.proofs.Rows.{OpensAre, put_here, put_else, opens_then, opens_answer}
 use Rattle.spec_history.proofs.Stable.{after_all}
 use Rattle.spec_history.proofs.Trace.{count_append}
 use Rattle.law_behind.specs.Past.{Past, behind}

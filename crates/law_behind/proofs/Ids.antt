@@ -8,7 +8,7 @@ use Rattle.spec_history.specs.Facts.{Fact, id_of, Shows}
 use Rattle.spec_history.specs.Acts.{SessionAct, assigns_id, Act, by, closes, of, shown, all_shown}
 use Rattle.spec_history.specs.Worlds.{World, step, run}
 use Rattle.spec_history.specs.Guards.{Good}
-use Rattle.spec_history.proofs.Owners.{own_of, AllOwned}
+use Rattle.law_history.proofs.Owners.{own_of, AllOwned}
 use Rattle.spec_history.proofs.Signs.{ids_facts}
 use Rattle.spec_history.proofs.Trace.{ids_from, ids_to}
 

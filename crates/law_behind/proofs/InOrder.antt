@@ -16,7 +16,7 @@ use Rattle.spec_history.specs.StepOrder.{Counted}
 use Rattle.spec_history.specs.Transcripts.{Transcript}
 use Rattle.spec_history.specs.Worlds.{World, run}
 use Rattle.spec_history.proofs.Cuts.{good_append, of_append}
-use Rattle.spec_history.proofs.Order.{counted, facts_in}
+use Rattle.law_history.proofs.Order.{counted, facts_in}
 use Rattle.spec_history.proofs.Setup.{silent}
 use Rattle.law_order.specs.OneOrder.{SessionFact, facts_of_session, named}
 use Rattle.law_order.proofs.Counts.{never_fall}

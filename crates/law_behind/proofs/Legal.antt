@@ -9,7 +9,7 @@ use Rattle.spec_history.specs.Acts.{SessionAct, commits, Act, by, closes}
 use Rattle.spec_history.specs.Sessions.{SessionTransaction}
 use Rattle.spec_history.specs.Worlds.{World, item_of, items_by, step, run, tables}
 use Rattle.spec_history.specs.Guards.{IsEnabled, Good}
-use Rattle.spec_history.proofs.Items.{added, items_are}
+use Rattle.law_history.proofs.Items.{added, items_are}
 use Rattle.spec_history.proofs.Legal.{IdsApart, apart_run, closings_run}
 use Rattle.spec_history.proofs.Stable.{replays_append}
 use Rattle.law_behind.specs.Past.{IsPast, Past, behind, since}

@@ -13,10 +13,10 @@ use Rattle.spec_history.specs.ByLocks.{LocksDecide}
 use Rattle.spec_history.specs.Worlds.{World, first, run}
 use Rattle.spec_history.specs.Guards.{Good}
 use Rattle.spec_history.specs.Histories.{IsWhole, OneAtATime, rows_of, lines_of, EndsComeLast, pending, ClosesInStep}
-use Rattle.spec_history.proofs.Order.{counted, facts_in}
-use Rattle.spec_history.proofs.Lines.{rows_answer}
-use Rattle.spec_history.proofs.Items.{items_run}
-use Rattle.spec_history.proofs.Rows.{entries_are, rows_show}
+use Rattle.law_history.proofs.Order.{counted, facts_in}
+use Rattle.law_history.proofs.Lines.{rows_answer}
+use Rattle.law_history.proofs.Items.{items_run}
+use Rattle.law_history.proofs.Rows.{entries_are, rows_show}
 use Rattle.spec_history.proofs.Refused.{below_or_nil}
 use Rattle.law_behind.specs.OrderBehind.{IsStepOrderBehind, StepOrderBehind}
 use Rattle.law_behind.specs.Past.{IsPast, Past, behind, unclosed}

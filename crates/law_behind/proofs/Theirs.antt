@@ -17,10 +17,10 @@ use Rattle.spec_history.specs.Sessions.{Phase, unborn, runs, SessionTransaction,
 use Rattle.spec_history.specs.Worlds.{World, item_of, items_by, step, run}
 use Rattle.spec_history.specs.Guards.{IsEnabled, Good, Commits}
 use Rattle.spec_history.specs.Histories.{SessionsBelow}
-use Rattle.spec_history.proofs.Items.{added, items_are}
+use Rattle.law_history.proofs.Items.{added, items_are}
 use Rattle.spec_history.proofs.Legal.{came, was_there}
-use Rattle.spec_history.proofs.Names.{keeps_name}
-use Rattle.spec_history.proofs.Placed.{PicksAll, committed_of, picked_append, placed_run}
+use Rattle.law_history.proofs.Names.{keeps_name}
+use Rattle.law_history.proofs.Placed.{PicksAll, committed_of, picked_append, placed_run}
 use Rattle.spec_history.proofs.Trace.{each_append, id_is, next_step}
 use Rattle.law_behind.specs.Past.{IsPast, Past, behind}
 

@@ -13,7 +13,7 @@ use Rattle.spec_history.specs.Lists.{Each, Text}
 use Rattle.spec_history.specs.Sessions.{transcript_of}
 use Rattle.spec_history.specs.Transcripts.{Transcript}
 use Rattle.spec_history.specs.Worlds.{World, first, run}
-use Rattle.spec_history.proofs.Legality.{one_legality}
+use Rattle.law_history.proofs.Legality.{one_legality}
 use Rattle.spec_protocol.specs.Ledger.{ledger_from, ledger_of}
 use Rattle.spec_protocol.proofs.Counting.{closed_counted, entries_counted}
 use Rattle.spec_protocol.specs.AllowedVisit.{first_seat}

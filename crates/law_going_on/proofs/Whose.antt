@@ -11,10 +11,10 @@ use Rattle.spec_history.specs.Transactions.{listed}
 use Rattle.spec_history.specs.Worlds.{World, first, run, step}
 use Rattle.spec_history.proofs.Cuts.{good_append, of_append, run_append}
 use Rattle.spec_history.proofs.Follow.{eqb_sym}
-use Rattle.spec_history.proofs.Owners.{all_owned, own_of, owned_facts}
+use Rattle.law_history.proofs.Owners.{all_owned, own_of, owned_facts}
 use Rattle.spec_history.proofs.Settles.{in_append, in_left, in_right}
 use Rattle.spec_history.proofs.Setup.{silent}
-use Rattle.spec_history.proofs.TranscriptsSoFar.{told}
+use Rattle.law_history.proofs.TranscriptsSoFar.{told}
 use Rattle.spec_protocol.specs.Cells.{Cell}
 use Rattle.spec_protocol.specs.Parts.{Numbers, Past}
 use Rattle.spec_protocol.specs.Seats.{SeatState, Written}

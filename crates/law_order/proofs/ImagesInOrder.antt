@@ -11,7 +11,7 @@ use Rattle.spec_history.specs.Marks.{ClosedIn, ImagesHave}
 use Rattle.spec_history.specs.Meaning.{Meaning}
 use Rattle.spec_history.specs.Worlds.{World, step, run}
 use Rattle.spec_history.proofs.Grows.{grows, blocks_step}
-use Rattle.spec_history.proofs.Order.{facts_in}
+use Rattle.law_history.proofs.Order.{facts_in}
 use Rattle.spec_history.proofs.Trace.{each_append}
 
 module _ (q : Meaning) (db : Text) where

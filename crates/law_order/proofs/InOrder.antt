@@ -14,9 +14,9 @@ use Rattle.spec_history.specs.Sessions.{transcript_of}
 use Rattle.spec_history.specs.StepOrder.{Counted}
 use Rattle.spec_history.specs.Transcripts.{Transcript}
 use Rattle.spec_history.specs.Worlds.{World, first, run}
-use Rattle.spec_history.proofs.Agreed.{of_at, there_at, told_of}
+use Rattle.law_history.proofs.Agreed.{of_at, there_at, told_of}
 use Rattle.spec_history.proofs.Cuts.{good_append, of_append}
-use Rattle.spec_history.proofs.Order.{counted, facts_in}
+use Rattle.law_history.proofs.Order.{counted, facts_in}
 use Rattle.spec_history.proofs.Setup.{silent}
 use Rattle.law_order.specs.OneOrder.{SessionFact, AreInOneOrder, HaveOneOrder, facts_of_session, named}
 use Rattle.law_order.proofs.Counts.{never_fall}

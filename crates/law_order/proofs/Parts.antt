@@ -8,7 +8,7 @@ use Rattle.spec_history.specs.Acts.{SessionAct, Act, by, closes, of, shown, all_
 use Rattle.spec_history.specs.Facts.{Fact}
 use Rattle.spec_history.specs.Histories.{SessionsBelow}
 use Rattle.spec_history.specs.Lists.{Text, Each}
-use Rattle.spec_history.proofs.Order.{facts_in}
+use Rattle.law_history.proofs.Order.{facts_in}
 use Rattle.spec_history.proofs.Trace.{each_append}
 use Rattle.law_order.specs.OneOrder.{SessionFact, facts_in_order, facts_of_session, named}
 

@@ -14,7 +14,7 @@ use Rattle.spec_history.specs.Worlds.{first, run}
 use Rattle.spec_history.specs.Guards.{Good}
 use Rattle.spec_history.specs.Histories.{IsIdle}
 use Rattle.spec_history.proofs.TransactionLogs.{has_book}
-use Rattle.spec_history.proofs.TranscriptsSoFar.{told}
+use Rattle.law_history.proofs.TranscriptsSoFar.{told}
 
 abbrev open_all : Option Transaction → List Fact → Option Transaction
 open_all o [] = o

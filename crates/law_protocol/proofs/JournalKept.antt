@@ -26,7 +26,7 @@ use Rattle.spec_history.specs.WantClashes.{AloneIn}
 use Rattle.spec_history.specs.Worlds.{World, first, item_of, items_by, run, step}
 use Rattle.spec_history.specs.Guards.{IsEnabled}
 use Rattle.spec_history.proofs.Alone.{alone_step}
-use Rattle.spec_history.proofs.IdsAssigned.{all_named}
+use Rattle.law_history.proofs.IdsAssigned.{all_named}
 use Rattle.spec_history.proofs.Legal.{closings_run}
 use Rattle.spec_history.proofs.Trace.{each_append, ids_from, ids_to}
 use Rattle.spec_protocol.specs.Cells.{Cell}

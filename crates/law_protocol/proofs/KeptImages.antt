@@ -9,7 +9,7 @@ use Rattle.spec_history.specs.Facts.{Fact, facts, facts_of}
 use Rattle.spec_history.specs.Sessions.{gone, transcript_of}
 use Rattle.spec_history.specs.Transcripts.{Transcript}
 use Rattle.spec_history.specs.Worlds.{first, run}
-use Rattle.spec_history.proofs.TranscriptsSoFar.{told}
+use Rattle.law_history.proofs.TranscriptsSoFar.{told}
 use Rattle.spec_protocol.specs.AtTheEnd.{HasItsImages, image_items}
 use Rattle.spec_protocol.specs.Cells.{Cell}
 use Rattle.spec_protocol.specs.Parts.{Past}

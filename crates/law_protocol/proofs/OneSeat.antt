@@ -10,7 +10,7 @@ use Rattle.spec_history.specs.Lists.{Text, Each, In}
 use Rattle.spec_history.specs.Sessions.{SessionState, unborn}
 use Rattle.spec_history.specs.Worlds.{World, first, run}
 use Rattle.spec_history.proofs.Cuts.{good_append, run_append}
-use Rattle.spec_history.proofs.Names.{Named, keeps_name}
+use Rattle.law_history.proofs.Names.{Named, keeps_name}
 use Rattle.spec_history.proofs.Settles.{in_right}
 use Rattle.spec_history.proofs.Trace.{each_append, each_weaker}
 use Rattle.spec_protocol.specs.Cells.{Cell}

@@ -3,8 +3,8 @@ use Rattle.std.proofs.Common.{List, [], length, None, subst}
 use Rattle.spec_history.specs.ExactRefusals.{StepOrder}
 use Rattle.spec_history.specs.Histories.{IsWhole, SessionsBelow, lines_of, rows_of}
 use Rattle.spec_history.specs.Worlds.{first}
-use Rattle.spec_history.proofs.ByLocks.{exact_refusals}
-use Rattle.spec_history.proofs.Ordered as ordered
+use Rattle.law_history.proofs.ByLocks.{exact_refusals}
+use Rattle.law_history.proofs.Ordered as ordered
 use Rattle.spec_protocol.specs.Cells.{Cell}
 use Rattle.spec_protocol.specs.LocksDecideIn.{LocksDecideIn}
 use Rattle.spec_protocol.specs.Seats.{SeatState}

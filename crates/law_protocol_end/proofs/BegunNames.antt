@@ -10,7 +10,7 @@ use Rattle.spec_history.specs.Meaning.{Meaning}
 use Rattle.spec_history.specs.Sessions.{SessionState, acted, gone, runs, unborn}
 use Rattle.spec_history.specs.Transcripts.{Transcript}
 use Rattle.spec_history.specs.Worlds.{World, first, run, step}
-use Rattle.spec_history.proofs.Names.{Named, keeps_name}
+use Rattle.law_history.proofs.Names.{Named, keeps_name}
 use Rattle.spec_protocol.specs.AtTheEnd.{AreWritten}
 use Rattle.spec_protocol.specs.Cells.{Cell}
 use Rattle.spec_protocol.specs.AnonymousActs.{AnonymousAct, anonymous_act, did}

@@ -11,7 +11,7 @@ use Rattle.spec_history.specs.Sessions.{Phase, unborn, runs, gone, SessionState,
 use Rattle.spec_history.specs.Transactions.{listed}
 use Rattle.spec_history.specs.Transcripts.{Transcript}
 use Rattle.spec_history.specs.Worlds.{World, first, step, run}
-use Rattle.spec_history.proofs.Agreed.{there_is}
+use Rattle.law_history.proofs.Agreed.{there_is}
 use Rattle.spec_history.proofs.Cuts.{good_append, run_append}
 use Rattle.spec_history.proofs.Settles.{in_append}
 use Rattle.spec_history.proofs.Setup.{silent}

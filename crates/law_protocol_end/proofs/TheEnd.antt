@@ -14,7 +14,7 @@ use Rattle.spec_history.specs.Sessions.{SessionState, gone, unborn, transcript_o
 use Rattle.spec_history.specs.Transactions.{listed}
 use Rattle.spec_history.specs.Transcripts.{Transcript}
 use Rattle.spec_history.specs.Worlds.{first, run}
-use Rattle.spec_history.proofs.Agreed.{agrees}
+use Rattle.law_history.proofs.Agreed.{agrees}
 use Rattle.spec_history.proofs.Settles.{in_append}
 use Rattle.spec_protocol.specs.AtTheEnd.{AllRest, IsWritten, AreWritten, NamesDiffer, SessionsDiffer, WroteAt}
 use Rattle.spec_protocol.specs.Cells.{Cell}

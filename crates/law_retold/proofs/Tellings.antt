@@ -31,7 +31,7 @@ use Rattle.spec_history.specs.Sessions.{SessionState, fresh}
 use Rattle.spec_history.specs.Worlds.{World, first, run}
 use Rattle.spec_history.specs.Guards.{NoTable}
 use Rattle.spec_history.proofs.Cuts.{of_append}
-use Rattle.spec_history.proofs.Legality.{one_legality}
+use Rattle.law_history.proofs.Legality.{one_legality}
 use Rattle.spec_history.proofs.Stable.{serial_append}
 use Rattle.spec_history.proofs.Trace.{count_append}
 use Rattle.law_retold.specs.Retold as told

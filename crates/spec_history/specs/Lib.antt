@@ -15,7 +15,6 @@ pub mod Marks
 pub mod Meaning
 pub mod Real
 pub mod Refusals
-pub mod Sample
 pub mod Serial
 pub mod Sessions
 pub mod SoFar

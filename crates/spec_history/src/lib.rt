@@ -1,10 +1,6 @@
-//! Histories of sessions: definitions of agreement and of histories, and laws about them.
+//! Histories of sessions, and when they agree with a journal: definitions.
 #![tactic(auto)]
 
 mod laws;
 
-pub use laws::{
-    a_history_is_good, histories_agree, histories_agree_so_far, histories_keep_step_order,
-    legality_is_one_for_all_meanings, statements_have_such_a_meaning,
-    the_journal_has_the_names_of_its_sessions, where_locks_decide_step_order_is_whole,
-};
+pub use laws::statements_have_such_a_meaning;

@@ -1,7 +1,7 @@
 use Rattle.std.proofs.Common.{subst}
 use Rattle.spec_history.specs.Histories.{HasItsName}
 use Rattle.spec_history.specs.Lists.{Each}
-use Rattle.spec_history.proofs.IdsAssigned.{all_named}
+use Rattle.law_history.proofs.IdsAssigned.{all_named}
 use Rattle.law_protocol.proofs.laws.the_journal_has_its_sessions_names.Goals as goal
 
 pub returns : goal.returns

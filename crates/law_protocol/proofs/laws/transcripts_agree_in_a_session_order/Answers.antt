@@ -1,6 +1,6 @@
 use Rattle.std.proofs.Common.{subst₂}
 use Rattle.spec_history.specs.Agree.{Agree}
-use Rattle.spec_history.proofs.Agreed.{agrees}
+use Rattle.law_history.proofs.Agreed.{agrees}
 use Rattle.law_protocol.proofs.InSessionOrder.{in_order_of}
 use Rattle.law_protocol_ledger.proofs.Reorders.{reordered_agrees, sessions_long}
 use Rattle.law_protocol_ledger.proofs.TheEnd.{below}

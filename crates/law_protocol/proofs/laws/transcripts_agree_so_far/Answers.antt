@@ -1,4 +1,4 @@
-use Rattle.spec_history.proofs.SoFar.{so_far}
+use Rattle.law_history.proofs.SoFar.{so_far}
 use Rattle.law_protocol.proofs.laws.transcripts_agree_so_far.Goals as goal
 
 pub returns : goal.returns

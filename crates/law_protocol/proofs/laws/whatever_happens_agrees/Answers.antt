@@ -2,7 +2,7 @@ use Rattle.std.proofs.Common.{subst}
 use Rattle.spec_history.specs.Lists.{Text}
 use Rattle.spec_history.specs.SoFar.{AgreeSoFar}
 use Rattle.spec_history.specs.Worlds.{first, run}
-use Rattle.spec_history.proofs.SoFar.{so_far}
+use Rattle.law_history.proofs.SoFar.{so_far}
 use Rattle.law_protocol.proofs.SinceFirst.{since_first}
 use Rattle.law_protocol.proofs.laws.whatever_happens_agrees.Goals as goal
 

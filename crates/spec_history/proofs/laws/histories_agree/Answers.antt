@@ -1,5 +1,0 @@
-use Rattle.spec_history.proofs.Agreed.{agrees}
-use Rattle.spec_history.proofs.laws.histories_agree.Goals as goal
-
-pub returns : goal.returns
-returns c = λ q database history input setup transcripts good whole. agrees q database history good input setup transcripts whole
