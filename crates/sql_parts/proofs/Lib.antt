@@ -4,6 +4,7 @@ mod Filled
 mod Fixed
 pub mod InTurn
 mod Lists
+pub mod OneMore
 pub mod Orders
 pub mod Positions
 mod Refusals

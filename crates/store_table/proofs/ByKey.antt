@@ -12,7 +12,7 @@ use Rattle.spec_model.specs.Runs.{Rising}
 use Rattle.sql_parts.proofs.Orders.{key_total}
 use Rattle.law_frame.proofs.Alls.{all_filter, all_sorted}
 use Rattle.store_table.specs.Orders.{order_cmp, in_order, starts_of, version_at}
-use Rattle.store_table.proofs.OneMore.{sorted_passing}
+use Rattle.sql_parts.proofs.OneMore.{sorted_passing}
 use Rattle.store_table.proofs.InOrder.{find_own}
 use Rattle.store_table.proofs.Keeping.{row_is, rows_in_order}
 

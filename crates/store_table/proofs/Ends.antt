@@ -16,7 +16,7 @@ use Rattle.law_frame.proofs.Sounds.{event_total}
 use Rattle.sql_parts.proofs.Sorting.{is_sorted}
 use Rattle.store_table.specs.declared.ending.Ending.{Ending}
 use Rattle.store_table.specs.Ends.{ending, ending_cmp, own_ending, endings_of, endings_in, ending_place}
-use Rattle.store_table.proofs.OneMore.{inserted_at, removed_at, place_there, place_within, sorted_more, parted, before_is_downward}
+use Rattle.sql_parts.proofs.OneMore.{inserted_at, removed_at, place_there, place_within, sorted_more, parted, before_is_downward}
 use Rattle.store_table.proofs.Splits.{rising_left}
 
 pub ending_total : IsTotalOrder ending_cmp

@@ -28,7 +28,7 @@ use Rattle.spec_protocol.specs.EventsIn.{events_in}
 use Rattle.spec_protocol.proofs.NewEvents.{come_last}
 use Rattle.store_table.specs.Made.{new_version, end_of, event_of, events_made, LiveFits, IsMade}
 use Rattle.store_table.specs.Orders.{version_at, started_by}
-use Rattle.store_table.proofs.OneMore.{sorted_passing}
+use Rattle.sql_parts.proofs.OneMore.{sorted_passing}
 
 abbrev by_seq : Event → Event → Ordering
 by_seq a b = nat_cmp a.seq b.seq

@@ -20,7 +20,7 @@ use Rattle.law_frame.proofs.Sounds.{event_total, start_total}
 use Rattle.law_journal.proofs.Counts.{own_same, same_parts}
 use Rattle.sql_parts.proofs.Orders.{key_total}
 use Rattle.store_table.specs.Orders.{column_values, key_values, row_cmp, order_cmp, in_order, starts_of, version_at, passes, comes_before, place_of}
-use Rattle.store_table.proofs.OneMore.{inserted_at, removed_at, place_there, place_within, sorted_more, parted, parted_map, prefix_map, point_is, before_is_downward, IsDownward}
+use Rattle.sql_parts.proofs.OneMore.{inserted_at, removed_at, place_there, place_within, sorted_more, parted, parted_map, prefix_map, point_is, before_is_downward, IsDownward}
 use Rattle.store_table.proofs.Splits.{rising_left}
 
 less_apart : (o t : Ordering) → t ≡ Less → ordering_then o t ≡ Equal → ⊥

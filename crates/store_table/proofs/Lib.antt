@@ -14,7 +14,6 @@ mod LeavesMade
 mod Moves
 pub mod Noted
 mod OfKey
-mod OneMore
 mod Passing
 mod Rooms
 mod RowsMade

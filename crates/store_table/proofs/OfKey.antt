@@ -16,7 +16,7 @@ use Rattle.spec_model.specs.Keys.{Key, key_at, key_cmp, has_live_row_at, live_by
 use Rattle.spec_model.specs.Runs.{Rising}
 use Rattle.sql_parts.proofs.Orders.{key_total}
 use Rattle.store_table.specs.Orders.{key_values, order_cmp, in_order, starts_of, version_at, passes, is_below, is_up_to, is_of_key, has_row_below, row_cmp}
-use Rattle.store_table.proofs.OneMore.{IsDownward, before_is_downward, parted}
+use Rattle.sql_parts.proofs.OneMore.{IsDownward, before_is_downward, parted}
 use Rattle.store_table.proofs.InOrder.{order_total, row_total, find_own}
 use Rattle.store_table.proofs.Keeping.{row_is}
 use Rattle.store_table.specs.Stored as stored

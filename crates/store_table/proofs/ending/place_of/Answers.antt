@@ -3,7 +3,7 @@ use Rattle.std.proofs.lemmas.List.Sorted.{IsPartitionPoint-from_clause}
 use Rattle.std.specs.Ordering.{is_lt}
 use Rattle.store_table.specs.Ends.{ending_cmp}
 use Rattle.store_table.proofs.Ends.{endings_parted}
-use Rattle.store_table.proofs.OneMore.{point_is}
+use Rattle.sql_parts.proofs.OneMore.{point_is}
 use Rattle.store_table.proofs.ending.place_of.Goals as goal
 
 pub returns-clause-place : goal.returns-clause-place
