@@ -12,4 +12,3 @@ mod tables;
 mod versions;
 
 pub use as_of::{AsOf, AsOfErr};
-pub use spec_asof::AsOfReply;

@@ -7,7 +7,6 @@ mod make;
 mod numbers;
 mod roots;
 
-pub use audit_receipt::ReceiptErr;
 pub use check::{check_row_receipt, check_table_receipt};
 pub use format_row_receipt::{RowReceipt, TableReceipt};
 pub use make::{make_row_receipt, make_table_receipt};

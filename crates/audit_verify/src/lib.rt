@@ -13,9 +13,7 @@ mod verdict;
 mod versions;
 mod workers;
 
-pub use audit_roots::{Fault, root_fault_is_merged, roots_of_groups_merge};
 pub use groups::{GroupFaults, group_faults};
 pub use spec_verify::{Invariant, Place, Verdict};
-pub use sql_types::HeldDigest;
 pub use verdict::verify_image;
 pub use workers::{verify, verify_image_with_workers};

@@ -1,4 +1,3 @@
-pub use Rattle.base_sha256.specs.Messages
 pub mod Holds
 pub mod Levels
 pub mod PutOn

@@ -3,5 +3,4 @@
 
 mod shared;
 
-pub use base_types::Memory;
 pub use shared::Shared;

@@ -13,5 +13,4 @@ mod top;
 
 pub use cli_audit::{INPUT_LIMIT, Status};
 pub use cli_words::USAGE;
-pub use format_journal::{Journal, JournalItem, Script, write_journal};
 pub use top::ledgerd;

@@ -12,5 +12,4 @@ pub use event_ref::{EventRef, write_leaf};
 pub use laws::equal_leaves_are_of_equal_events;
 pub use leaf::{put_type, write_event};
 pub use reading::{read_event, type_at};
-pub use sql_types::{Event, EventField};
 pub use typed::{put_typed, typed_at};

@@ -5,5 +5,4 @@ mod rows;
 mod text;
 mod utf8;
 
-pub use sql_types::Reply;
 pub use text::{indented_reply, reply_text};

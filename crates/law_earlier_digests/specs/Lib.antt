@@ -1,2 +1,1 @@
 pub mod Earlier
-pub use Rattle.law_accepts.specs.Held

@@ -6,5 +6,3 @@ mod room;
 
 pub use laws::events_of_legal_journals_have_leaves;
 pub use room::{are_utf8_texts, have_room};
-pub use sql_types::Event;
-pub use sql_value::Value;

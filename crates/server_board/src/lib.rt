@@ -6,5 +6,4 @@ mod giving;
 mod world;
 
 pub use giving::{give_all_with, give_with};
-pub use server_session::ServedCell;
 pub use world::{LedgerWorld, SeatKnowledge, Serving};

@@ -16,8 +16,6 @@ pub use law_sequential::{
 };
 pub use one_thread::Core;
 pub use parts::Parts;
-pub use server_visits::{
-    CatalogCell, Cell, LedgerCell, TableCell, image_bytes_of, visit, visit_all,
-};
+pub use server_visits::{CatalogCell, Cell, LedgerCell, TableCell, image_bytes_of, visit};
 pub use session::{Session, SessionEnd, new_session};
 pub use starts::runs_start;

@@ -1,3 +1,2 @@
 pub mod PastCells
 pub mod Ready
-pub use Rattle.server_session.specs.KeptCell

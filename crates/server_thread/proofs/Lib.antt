@@ -8,4 +8,3 @@ mod StepsAhead
 mod Telling
 mod Visiting
 pub use Rattle.server_board.proofs.Begins
-pub use Rattle.server_engine.proofs.FirstCells

@@ -7,5 +7,4 @@ mod undoing;
 
 pub use changing::change_table;
 pub use events::{all_events, events_of};
-pub use sql_types::{Change, Event, Table, Version};
 pub use undoing::undo;

@@ -11,5 +11,4 @@ mod written;
 
 pub use changes::{row_changes, row_changes_of};
 pub use keeping::{arranged, kept, kept_row, value_named};
-pub use sql_types::{Change, Row, RowStmt, TableDef, Version};
 pub use written::WrittenNames;

@@ -16,4 +16,3 @@ pub use indexing::new_index;
 pub use names::{own_part, part_named};
 pub use rows::{check_stmt, table_of};
 pub use selecting::check_select;
-pub use sql_types::{Alter, CreateIndex, CreateTable, IndexDef, Part, RowStmt, Select, TableDef};

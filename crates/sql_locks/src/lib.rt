@@ -7,4 +7,3 @@ mod rows;
 
 pub use query::query_requests;
 pub use rows::row_requests;
-pub use sql_types::{LockRequest, Mode, Part, RowStmt, Select};

@@ -19,5 +19,5 @@ mod word;
 
 pub use print_stmt::print;
 pub use spec_syntax::ParseErr;
-pub use sql_types::{Agg, Alter, CreateIndex, CreateTable, RowStmt, Select, SelectList, Stmt};
+pub use sql_types::{Select, Stmt};
 pub use text::{parse, parse_any, parse_in};

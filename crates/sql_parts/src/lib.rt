@@ -28,5 +28,4 @@ pub use laws::sorted_lists_rise_stably;
 pub use live::live_by_key;
 pub use live_columns::{LiveColumns, dropped_flags, is_dropped};
 pub use rows::{base_row, part_rows};
-pub use sql_types::{Key, Part, Row, TableDef, Version};
 pub use values::{Valued, copy_or_null, number, row_of, stored_row};

@@ -10,4 +10,3 @@ mod totals;
 
 pub use reading::query_rows;
 pub use selecting::select;
-pub use sql_types::{Row, Select};

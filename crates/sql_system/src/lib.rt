@@ -7,7 +7,6 @@ mod system_rows;
 
 pub use changing::next_change;
 pub use sql_parts::copy_def;
-pub use sql_types::{Change, IndexDef, Table, TableDef};
 pub use system::{
     changed_column_start, changed_table_start, column_starts, first_tables, index_starts,
     table_start,

@@ -13,7 +13,7 @@ mod sql_type;
 mod type_codes;
 mod value;
 
-pub use base_types::{Blob, Boxed, Hash, Items, Memory, Name, TableId, Text, TxId};
+pub use base_types::{Blob, Hash, Items, Memory, Name, TableId, Text, TxId};
 pub use column::{ColumnDef, TableKind};
 pub use day::CivilDate;
 pub use expr::{Class, Expr, Op};

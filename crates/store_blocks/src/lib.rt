@@ -5,4 +5,3 @@ mod ledger_chain;
 mod placing;
 
 pub use ledger_chain::LedgerChain;
-pub use sql_types::{BlockRecord, TxEntry};

@@ -2,6 +2,5 @@ mod Found
 mod Kept
 mod Known
 mod Encoded
-pub use Rattle.format_image_rows.proofs.Entries
 pub use Rattle.law_server.proofs.CellsShow
 pub use Rattle.law_server.proofs.Servers

@@ -14,4 +14,3 @@ pub use laws::{
     closings_are_visits_one_by_one, closings_keep_the_ledger_legal,
     issued_digests_are_of_the_journal, issuing_is_a_visit,
 };
-pub use sql_types::{BlockRecord, Digest, Journal, JournalItem, Script, TxEntry};

@@ -14,4 +14,4 @@ pub use laws::{back_undoes_an_ask, least_holder_is_named};
 pub use list::LockList;
 pub use lock_err::LockErr;
 pub use mode::conflicts;
-pub use sql_types::{Hold, Item, Key, LockRequest, Mode};
+pub use sql_types::{Item, LockRequest, Mode};

@@ -29,6 +29,5 @@ pub use laws::{
     releasing_is_a_visit, stopping_is_a_visit, undoing_is_a_visit,
 };
 pub use leaves::leaf_of;
-pub use sql_types::{EventId, TypedValue, Version};
 pub use stop::TableErr;
 pub use version_store::VersionStore;
