@@ -48,7 +48,7 @@ fn keep_all(
 fn keep(txs: &EarlierTxs, version: Version, kept: &mut Vec<Version>) -> Result<(), Memory>
     ensures { OnOk result (kept.new.items ≡ kept.old.items ++ kept_by (is_among txs.now) version) }
 {
-    if txs.has(version.start.0) {
+    if txs.has(version.start.tx) {
         kept.push(with_end_at(txs, version))?;
     }
     Ok(())
@@ -67,7 +67,7 @@ fn end_at(txs: &EarlierTxs, end: Option<EventId>) -> Option<EventId>
     ensures { result ≡ spec.end_at (is_among txs.now) end }
 {
     match end {
-        Some(event) if txs.has(event.0) => Some(event),
+        Some(event) if txs.has(event.tx) => Some(event),
         _ => None,
     }
 }

@@ -56,7 +56,7 @@ impl<'a> Positions<'a> {
     pub fn rank_of(&self, event: EventId) -> Rank
         ensures { result ≡ spec.rank_of self.now event }
     {
-        (self.position_of(event.0), event.1)
+        (self.position_of(event.tx), event.seq)
     }
 }
 

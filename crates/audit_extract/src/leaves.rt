@@ -180,8 +180,8 @@ fn event_leaf(alloc: Global, event: &EventRef) -> Result<Leaf, Memory>
     let mut bytes = Vec::new(alloc);
     write_leaf(event, &mut bytes)?;
     Ok(Leaf {
-        group: (event.id.0, event.table),
-        seq: event.id.1,
+        group: (event.id.tx, event.table),
+        seq: event.id.seq,
         bytes: Blob::from_vec(bytes),
     })
 }

@@ -82,7 +82,7 @@ module _ (h : List ℕ → List ℕ) (i : Image) where
 
 numbers_seen : (ms : List Mark) → numbers_in (map event_of ms) ≡ map number_of ms
 numbers_seen [] = refl
-numbers_seen (m ∷ ms) = ap (λ (l : List ℕ). m.event.1 ∷ l) (numbers_seen ms)
+numbers_seen (m ∷ ms) = ap (λ (l : List ℕ). m.seq ∷ l) (numbers_seen ms)
 
 module _ (h : List ℕ → List ℕ) (e : TxEntry) (marks own : List Mark) (own_is : own ≡ filter (λ (m : Mark). tx_of m == e.id) marks)
     (numbers : List ℕ) (numbers_are : numbers ≡ map number_of own) where

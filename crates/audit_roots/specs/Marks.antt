@@ -20,17 +20,17 @@ abbrev pub event_of : Mark → Event
 event_of m =
     record {
       table = m.table;
-      tx = m.event.0;
-      seq = m.event.1;
+      tx = m.tx;
+      seq = m.seq;
       ends = if m.is_end then Some m.version.now.start else None;
       columns = fields_of m.version.now.values;
     }
 
 abbrev pub tx_of : Mark → ℕ
-tx_of m = m.event.0
+tx_of m = m.tx
 
 abbrev pub number_of : Mark → ℕ
-number_of m = m.event.1
+number_of m = m.seq
 
 -- the hash of its leaf
 abbrev pub leaf_hash : (List ℕ → List ℕ) → Mark → List ℕ

@@ -64,7 +64,7 @@ fn sort_ids(ids: &mut Vec<EventId>) -> Result<(), Memory>
     ensures ids { OnOk result (ids.new.items ≡ sorted event_cmp ids.old.items) }
     ensures rise { OnOk result (IsNonDecreasingBy tx_in ids.new.items) }
 {
-    ids.sort_by(|a, b| a.0.cmp(&b.0).then(a.1.cmp(&b.1)))?;
+    ids.sort_by(|a, b| a.tx.cmp(&b.tx).then(a.seq.cmp(&b.seq)))?;
     Ok(())
 }
 
@@ -73,9 +73,9 @@ pub(crate) fn ids_of(ids: &[EventId], tx: TxId) -> &[EventId]
     requires { IsNonDecreasingBy tx_in ids.now }
     ensures { result.now ≡ filter (λ e. tx_in e == tx) ids.now }
 {
-    let from = ids.partition_point(|id| id.0 < tx);
+    let from = ids.partition_point(|id| id.tx < tx);
     let (_, rest) = ids.split_at(from);
-    let count = rest.partition_point(|id| id.0 <= tx);
+    let count = rest.partition_point(|id| id.tx <= tx);
     let (own, _) = rest.split_at(count);
     own
 }
@@ -86,7 +86,7 @@ pub(crate) fn put_numbers(ids: &[EventId], numbers: &mut Vec<u64>) -> Result<(),
 {
     numbers.clear();
     for id in ids {
-        numbers.push(id.1)?;
+        numbers.push(id.seq)?;
     }
     Ok(())
 }

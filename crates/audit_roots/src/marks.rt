@@ -21,8 +21,9 @@ use std::cmp::Ordering;
 /// The start or the end of a version.
 #[derive(Clone, Copy, Debug)]
 pub struct Mark<'a> {
-    /// Its transaction, and its number there.
-    pub event: EventId,
+    pub tx: TxId,
+    /// Its number in the transaction.
+    pub seq: u64,
     pub version: &'a Version,
     pub table: TableId,
     /// Whether it is the end.
@@ -95,14 +96,16 @@ fn add_version<'a>(
         ≡ map event_of marks.old.items ++ version_events table version.now) }
 {
     marks.push(Mark {
-        event: version.start,
+        tx: version.start.tx,
+        seq: version.start.seq,
         version,
         table,
         is_end: false,
     })?;
-    if let Some(event) = version.end {
+    if let Some(end) = version.end {
         marks.push(Mark {
-            event,
+            tx: end.tx,
+            seq: end.seq,
             version,
             table,
             is_end: true,
@@ -124,11 +127,9 @@ fn sort_marks(marks: &mut Vec<Mark>) -> Result<(), Memory>
 fn compare_marks(a: &Mark, b: &Mark) -> Ordering
     ensures { result ≡ leaf_cmp (event_of a.now) (event_of b.now) }
 {
-    a.event
-        .0
-        .cmp(&b.event.0)
+    a.tx.cmp(&b.tx)
         .then(a.table.cmp(&b.table))
-        .then(a.event.1.cmp(&b.event.1))
+        .then(a.seq.cmp(&b.seq))
 }
 
 /// Those of a transaction, which stand together, and the hashes of their leaves. Takes two ordered searches.
@@ -143,9 +144,9 @@ pub(crate) fn run_of<'m, 'h, 'a>(
     ensures hashes { (h : List ℕ → List ℕ) → hashes.now ≡ map (leaf_hash h) marks.now
         → result.1.now ≡ map (leaf_hash h) result.0.now }
 {
-    let from = marks.partition_point(|mark| mark.event.0 < tx);
+    let from = marks.partition_point(|mark| mark.tx < tx);
     let (_, rest) = marks.split_at(from);
-    let count = rest.partition_point(|mark| mark.event.0 <= tx);
+    let count = rest.partition_point(|mark| mark.tx <= tx);
     let (own, _) = rest.split_at(count);
     (own, hashes_at(hashes, from, count))
 }
@@ -188,7 +189,10 @@ fn event_at<'a>(mark: &Mark<'a>) -> EventRef<'a>
         true => Some(mark.version.start),
     };
     EventRef {
-        id: mark.event,
+        id: EventId {
+            tx: mark.tx,
+            seq: mark.seq,
+        },
         ends,
         values: mark.version.values.as_slice(),
         table: mark.table,

@@ -115,7 +115,7 @@ fn put_numbers(marks: &[Mark], numbers: &mut Vec<u64>) -> Result<(), Memory>
 {
     numbers.clear();
     for mark in marks {
-        numbers.push(mark.event.1)?;
+        numbers.push(mark.seq)?;
     }
     Ok(())
 }

@@ -108,7 +108,7 @@ fn lesser_at(
     ensures { result ≡ (if spec.has_id entries.now.all.now event.0 then best
         else lesser spec.table_event_cmp best (table, event)) }
 {
-    if entries.has(event.0) {
+    if entries.has(event.tx) {
         best
     } else {
         lesser(best, (table, event))

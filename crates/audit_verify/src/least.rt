@@ -26,7 +26,7 @@ pub(crate) fn event_place(event: Option<TableEvent>) -> Option<Place>
     ensures { result ≡ event_place event }
 {
     match event {
-        Some((table, (tx, seq))) => Some(Place::Event { table, tx, seq }),
+        Some((table, EventId { tx, seq })) => Some(Place::Event { table, tx, seq }),
         None => None,
     }
 }

@@ -12,6 +12,7 @@ use crate::groups::GroupFaults;
 use crate::least::{TableEvent, event_place};
 use audit_roots::lesser_root;
 use spec_verify::Place;
+use sql_types::EventId;
 use std::cmp::Ordering;
 
 /// What two groups find together, of which the first has the tables that come first.
@@ -53,7 +54,7 @@ fn event_at(place: Option<Place>) -> Option<TableEvent>
     ensures { result ≡ spec.event_at place }
 {
     match place {
-        Some(Place::Event { table, tx, seq }) => Some((table, (tx, seq))),
+        Some(Place::Event { table, tx, seq }) => Some((table, EventId { tx, seq })),
         _ => None,
     }
 }

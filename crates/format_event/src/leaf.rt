@@ -32,7 +32,11 @@ fn put_parts(e: &Event, out: &mut Vec<u8>) -> Result<(), Memory>
     ensures ok { OnOk result (out.new.items ≡ out.old.items ++ encoded (without_nulls e.now)) }
     ensures grows { take (length out.old.items) out.new.items ≡ out.old.items }
 {
-    put_head(e.table, e.ends, (e.tx, e.seq), out)?;
+    let id = EventId {
+        tx: e.tx,
+        seq: e.seq,
+    };
+    put_head(e.table, e.ends, id, out)?;
     put_start(e.ends, out)?;
     put_columns(e.columns.as_slice(), out)
 }
@@ -66,8 +70,8 @@ fn head_of(table: TableId, op: u8, id: EventId) -> [u8; 22]
     ensures { result ≡ head_of table op id }
 {
     let [a, b, c, d] = table.to_be_bytes();
-    let [x0, x1, x2, x3, x4, x5, x6, x7] = id.0.to_be_bytes();
-    let [y0, y1, y2, y3, y4, y5, y6, y7] = id.1.to_be_bytes();
+    let [x0, x1, x2, x3, x4, x5, x6, x7] = id.tx.to_be_bytes();
+    let [y0, y1, y2, y3, y4, y5, y6, y7] = id.seq.to_be_bytes();
     [
         1, a, b, c, d, op, x0, x1, x2, x3, x4, x5, x6, x7, y0, y1, y2, y3, y4, y5, y6, y7,
     ]
@@ -78,7 +82,7 @@ pub(crate) fn put_start(start: Option<EventId>, out: &mut Vec<u8>) -> Result<(),
     ensures ok { OnOk result (out.new.items ≡ out.old.items ++ start_bytes start) }
     ensures grows { take (length out.old.items) out.new.items ≡ out.old.items }
 {
-    if let Some((tx, seq)) = start {
+    if let Some(EventId { tx, seq }) = start {
         put_u64(out, tx)?;
         put_u64(out, seq)?;
     }

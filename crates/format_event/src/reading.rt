@@ -9,7 +9,7 @@ ghost use Rattle.format_event.specs.LeafReading.{event_at, start_at, columns_at,
 
 use crate::value_reading::value_of;
 use base_fields::{ReadError, literal, long_at, u8_at, u16_at, u32_at, u64_at, whole};
-use base_types::{Items, Memory};
+use base_types::{Items, Memory, TxId};
 use sql_scalar::fits;
 use sql_types::{Event, EventField, EventId};
 use sql_value::{SqlType, type_parts};
@@ -39,15 +39,15 @@ fn event_at(alloc: Global, bytes: &[u8]) -> Result<(Event, &[u8]), ReadError>
         table,
         tx,
         seq,
-        ends,
+        ends: event_of(ends),
         columns,
     };
     Ok((e, rest))
 }
 
-// For an end, the event that started the version.
+// For an end, the transaction of the event that started the version, and its number there.
 #[tactic(auto, unfolding(crate::specs::LeafReading::start_at))]
-fn start_at(op: u8, bytes: &[u8]) -> Result<(Option<EventId>, &[u8]), ReadError>
+fn start_at(op: u8, bytes: &[u8]) -> Result<(Option<(TxId, u64)>, &[u8]), ReadError>
     ensures { ReadsAs (λ x. (x.0, x.1.now)) result (start_at op bytes.now) }
 {
     match op {
@@ -58,6 +58,15 @@ fn start_at(op: u8, bytes: &[u8]) -> Result<(Option<EventId>, &[u8]), ReadError>
             Ok((Some((tx, seq)), rest))
         }
         _ => Err(ReadError::Malformed),
+    }
+}
+
+fn event_of(start: Option<(TxId, u64)>) -> Option<EventId>
+    ensures { result ≡ start }
+{
+    match start {
+        Some((tx, seq)) => Some(EventId { tx, seq }),
+        None => None,
     }
 }
 

@@ -7,7 +7,7 @@ ghost use Rattle.format_image.specs.RowBytes.{comes_after, rise_after, starts_ri
 ghost use Rattle.format_image.specs.ImageReading.{behind, value_behind, value_at, values_at, pair_at, base_at, history_at, base_rows_at, history_rows_at, index_rows_at, rows_at, table_at, tables_at};
 
 use base_fields::{ReadError, u8_at, u16_at, u64_at};
-use base_types::{Items, Memory, first_of};
+use base_types::{Items, Memory, TxId, first_of};
 use format_event::typed_at;
 use sql_types::{EventId, IndexDef, IndexRow, TableDef, TableRows, TypedValue, Version};
 use std::alloc::Global;
@@ -151,11 +151,11 @@ fn some_base_rows(
 fn base_at(alloc: Global, bytes: &[u8]) -> Result<(Version, &[u8]), ReadError>
     ensures { ReadsAs (λ x. (x.0, x.1.now)) result (base_at bytes.now) }
 {
-    let (start, rest) = pair_at(bytes)?;
+    let ((tx, seq), rest) = pair_at(bytes)?;
     let (values, rest) = values_at(alloc, rest)?;
     let row = Version {
         values,
-        start,
+        start: EventId { tx, seq },
         end: None,
     };
     Ok((row, rest))
@@ -194,19 +194,25 @@ fn some_history_rows(
 fn history_at(alloc: Global, bytes: &[u8]) -> Result<(Version, &[u8]), ReadError>
     ensures { ReadsAs (λ x. (x.0, x.1.now)) result (history_at bytes.now) }
 {
-    let (start, rest) = pair_at(bytes)?;
-    let (end, rest) = pair_at(rest)?;
+    let ((start_tx, start_seq), rest) = pair_at(bytes)?;
+    let ((end_tx, end_seq), rest) = pair_at(rest)?;
     let (values, rest) = values_at(alloc, rest)?;
     let row = Version {
         values,
-        start,
-        end: Some(end),
+        start: EventId {
+            tx: start_tx,
+            seq: start_seq,
+        },
+        end: Some(EventId {
+            tx: end_tx,
+            seq: end_seq,
+        }),
     };
     Ok((row, rest))
 }
 
 #[tactic(auto, unfolding(crate::specs::ImageReading::pair_at))]
-fn pair_at(bytes: &[u8]) -> Result<(EventId, &[u8]), ReadError>
+fn pair_at(bytes: &[u8]) -> Result<((TxId, u64), &[u8]), ReadError>
     ensures { Finds (λ x. (x.0, x.1.now)) result (pair_at bytes.now) }
 {
     let (tx, rest) = u64_at(bytes)?;
@@ -242,7 +248,7 @@ fn rise_after(before: EventId, rows: &[Version]) -> bool
 fn comes_after(last: EventId, event: EventId) -> bool
     ensures { result ≡ comes_after last event }
 {
-    last.0 < event.0 || (last.0 == event.0 && last.1 < event.1)
+    last.tx < event.tx || (last.tx == event.tx && last.seq < event.seq)
 }
 
 #[tactic(auto, unfolding(crate::specs::ImageReading::values_at))]

@@ -94,8 +94,8 @@ fn put_end(end: Option<EventId>, out: &mut Vec<u8>) -> Result<(), Memory>
 fn put_pair(event: EventId, out: &mut Vec<u8>) -> Result<(), Memory>
     ensures { OnOk result (out.new.items ≡ out.old.items ++ pair_bytes event) }
 {
-    put_u64(out, event.0)?;
-    put_u64(out, event.1)
+    put_u64(out, event.tx)?;
+    put_u64(out, event.seq)
 }
 
 fn put_each_index(indexes: &[Items<IndexRow>], out: &mut Vec<u8>) -> Result<(), Memory>

@@ -17,7 +17,7 @@ fn end_has_room(end: Option<EventId>)
 fn version_has_room(version: &Version)
     ensures { VersionFitsFormat version.now }
 {
-    let _number = version.start.1;
+    let _number = version.start.seq;
     end_has_room(version.end);
     are_utf8_texts(version.values.as_slice());
 }

@@ -68,7 +68,8 @@ fn carry_out(
 {
     let mut number = seq;
     for change in changes.into_vec() {
-        carry_out_one((tx, number), change, versions)?;
+        let at = EventId { tx, seq: number };
+        carry_out_one(at, change, versions)?;
         number += 1;
     }
     Ok(())

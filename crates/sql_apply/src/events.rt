@@ -75,7 +75,7 @@ fn add_start(
     requires { IsShort version.now }
     ensures { OnOk result (events.new.items ≡ events.old.items ++ own_start tx table version.now) }
 {
-    if version.start.0 == tx {
+    if version.start.tx == tx {
         events.push(start_event(alloc, table, version)?)?;
     }
     Ok(())
@@ -94,7 +94,7 @@ fn add_end(
         ≡ events.old.items ++ own_ends tx table version.now version.now.end) }
 {
     if let Some(end) = version.end {
-        if end.0 == tx {
+        if end.tx == tx {
             events.push(end_event(alloc, table, version, end)?)?;
         }
     }
@@ -107,8 +107,8 @@ fn start_event(alloc: Global, table: TableId, version: &Version) -> Result<Event
 {
     Ok(Event {
         table,
-        tx: version.start.0,
-        seq: version.start.1,
+        tx: version.start.tx,
+        seq: version.start.seq,
         ends: None,
         columns: fields_of(alloc, version.values.as_slice())?,
     })
@@ -125,8 +125,8 @@ fn end_event(
 {
     Ok(Event {
         table,
-        tx: end.0,
-        seq: end.1,
+        tx: end.tx,
+        seq: end.seq,
         ends: Some(version.start),
         columns: fields_of(alloc, version.values.as_slice())?,
     })

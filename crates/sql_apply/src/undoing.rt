@@ -53,5 +53,5 @@ fn end_left(end: Option<EventId>, tx: TxId, seq: u64) -> Option<EventId>
 fn is_undone(event: EventId, tx: TxId, seq: u64) -> bool
     ensures { result ≡ is_undone tx seq event }
 {
-    event.0 == tx && seq <= event.1
+    event.tx == tx && seq <= event.seq
 }

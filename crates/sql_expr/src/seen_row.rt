@@ -137,8 +137,8 @@ fn seen_start<'a>(start: EventId, place: usize) -> Option<OutcomeRef<'a>>
         ≡ option_map out.Value (slice_get (number start.0 ∷ number start.1 ∷ []) place) }
 {
     match place {
-        0 => Some(seen_count(start.0)),
-        1 => Some(seen_count(start.1)),
+        0 => Some(seen_count(start.tx)),
+        1 => Some(seen_count(start.seq)),
         _ => None,
     }
 }

@@ -43,8 +43,8 @@ pub fn base_row(alloc: Global, declared: &[ColumnDef], version: &Version) -> Res
 {
     let mut row = Vec::new(alloc);
     add_values(declared, version, &mut row)?;
-    row.push(number(version.start.0))?;
-    row.push(number(version.start.1))?;
+    row.push(number(version.start.tx))?;
+    row.push(number(version.start.seq))?;
     Ok(Items::from_vec(row))
 }
 
@@ -59,10 +59,10 @@ pub(crate) fn history_row(
 {
     let mut row = Vec::new(alloc);
     add_values(declared, version, &mut row)?;
-    row.push(number(version.start.0))?;
-    row.push(number(end.0))?;
-    row.push(number(version.start.1))?;
-    row.push(number(end.1))?;
+    row.push(number(version.start.tx))?;
+    row.push(number(end.tx))?;
+    row.push(number(version.start.seq))?;
+    row.push(number(end.seq))?;
     Ok(Items::from_vec(row))
 }
 
@@ -80,8 +80,8 @@ fn view_row(
 {
     let mut row = Vec::new(alloc);
     add_values(declared, version, &mut row)?;
-    row.push(number(event.0))?;
-    row.push(number(event.1))?;
+    row.push(number(event.tx))?;
+    row.push(number(event.seq))?;
     row.push(number(operation))?;
     row.push(Value::Text(Text::of_str(alloc, name)?))?;
     Ok(Items::from_vec(row))

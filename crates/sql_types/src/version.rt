@@ -2,13 +2,28 @@
 
 use crate::table::TableDef;
 use sql_value::{Items, SqlType, TxId, Value};
+use std::marker::Model;
 
 /// The values of a row, one for each column.
 pub type Row = Items<Value>;
 
-/// The transaction of an event, and its number there, from 0. Events are ordered by the transaction
-/// and then the number.
-pub type EventId = (TxId, u64);
+/// An event. Events are ordered by the transaction and then the number. Contracts see the pair of both.
+#[derive(Clone, Copy, Debug, PartialEq, Eq, PartialOrd, Ord)]
+pub struct EventId {
+    pub tx: TxId,
+    /// The number of the event in its transaction, from 0.
+    pub seq: u64,
+}
+
+impl Model for EventId {
+    ghost use Rattle.std.specs.Prelude.{ℕ};
+
+    ghost Value = { ℕ × ℕ };
+
+    ghost view = { λ e. (e.tx, e.seq) };
+
+    ghost inverse = { λ p. record { tx = p.0; seq = p.1 } };
+}
 
 /// A value other than NULL, with the type of the column that stored it.
 #[derive(Debug, Drop)]

@@ -62,7 +62,8 @@ fn leaves_of(
     let mut leaves = Vec::with_capacity(alloc, changes.len())?;
     let mut number = seq;
     for change in changes {
-        add_leaf(alloc, table, (tx, number), change, &mut leaves)?;
+        let id = EventId { tx, seq: number };
+        add_leaf(alloc, table, id, change, &mut leaves)?;
         number += 1;
     }
     Ok(Items::from_vec(leaves))
@@ -101,7 +102,7 @@ pub(crate) fn carry_out(rows: &mut VersionStore, tx: TxId, seq: u64, changes: It
 {
     let mut number = seq;
     for change in changes.into_vec() {
-        carry_out_one(rows, (tx, number), change);
+        carry_out_one(rows, EventId { tx, seq: number }, change);
         number += 1;
     }
 }

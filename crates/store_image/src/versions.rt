@@ -46,7 +46,7 @@ fn keep(
 ) -> Result<(), Memory>
     ensures { OnOk result (kept.new.items ≡ kept.old.items ++ kept_by (has_in known.now) version.now) }
 {
-    if known.has(version.start.0) {
+    if known.has(version.start.tx) {
         kept.push(copy_committed(alloc, known, version)?)?;
     }
     Ok(())
@@ -66,7 +66,7 @@ fn committed_end(known: &CommittedTxs, end: Option<EventId>) -> Option<EventId>
     ensures { result ≡ spec.end_committed (has_in known.now) end }
 {
     match end {
-        Some(event) if known.has(event.0) => Some(event),
+        Some(event) if known.has(event.tx) => Some(event),
         _ => None,
     }
 }

@@ -71,7 +71,7 @@ pub(crate) fn take_ending(ends: &mut Vec<Ending>, ending: Ending)
 fn is_up_to(ending: &Ending, tx: TxId) -> bool
     ensures { result ≡ nat_le ending.now.end.0 tx }
 {
-    ending.end.0 <= tx
+    ending.end.tx <= tx
 }
 
 /// The last end that the transaction made, where its number is `seq` or above.

@@ -13,9 +13,9 @@ pub(crate) fn guess_place(versions: &[Version], at: EventId) -> usize
     ensures { result < length versions.now }
 {
     let last = versions.len() - 1;
-    let first_tx = versions[0].start.0;
-    let whole = versions[last].start.0.saturating_sub(first_tx);
-    let part = at.0.saturating_sub(first_tx);
+    let first_tx = versions[0].start.tx;
+    let whole = versions[last].start.tx.saturating_sub(first_tx);
+    let part = at.tx.saturating_sub(first_tx);
     let guess = part.saturating_mul(last as u64).checked_div(whole);
     (guess.unwrap_or(0) as usize).min(last)
 }

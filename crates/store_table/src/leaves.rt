@@ -94,7 +94,10 @@ pub(crate) fn leaves_of(
 {
     let mut leaves = Vec::with_capacity(alloc, changes.len())?;
     for place in 0..changes.len() {
-        let at = (tx, seq + place as u64);
+        let at = EventId {
+            tx,
+            seq: seq + place as u64,
+        };
         leaves.push(leaf_of_change(alloc, table, at, &changes[place], versions)?)?;
     }
     Ok(leaves)

@@ -115,13 +115,13 @@ pub(crate) fn place_in_order(
 pub(crate) fn is_undone(event: EventId, tx: TxId, seq: u64) -> bool
     ensures { result ≡ undo.is_undone tx seq event }
 {
-    event.0 == tx && seq <= event.1
+    event.tx == tx && seq <= event.seq
 }
 
 fn is_up_to(version: &Version, tx: TxId) -> bool
     ensures { result ≡ nat_le version.now.start.0 tx }
 {
-    version.start.0 <= tx
+    version.start.tx <= tx
 }
 
 /// Where the last version stands that the transaction started, where its number is `seq` or above.

@@ -322,7 +322,7 @@ impl VersionStore {
         self.orders_follow();
         let mut number = seq;
         for change in changes.into_vec() {
-            self.carry_out_one((tx, number), change);
+            self.carry_out_one(EventId { tx, seq: number }, change);
             number += 1;
         }
     }

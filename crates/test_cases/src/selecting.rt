@@ -109,9 +109,9 @@ const SHORT: &str = "INSERT t VALUES (1, 10), (2, 20), (1, 11)";
 
 /// The starts and ends of these versions.
 const EVENTS: [(EventId, Option<EventId>); 3] = [
-    ((2, 0), Some((4, 0))),
-    ((2, 1), None),
-    ((4, 1), None),
+    (EventId { tx: 2, seq: 0 }, Some(EventId { tx: 4, seq: 0 })),
+    (EventId { tx: 2, seq: 1 }, None),
+    (EventId { tx: 4, seq: 1 }, None),
 ];
 
 fn short_versions(alloc: Global, table: &TableDef) -> Result<Vec<Version>, Fault> {
