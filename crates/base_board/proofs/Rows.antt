@@ -21,11 +21,6 @@ module _ {A : Type 0} where
   set_there (x ∷ xs) zero b h = refl
   set_there (x ∷ xs) (suc i) b h = set_there xs i b (omega arith)
 
-  pub there_below : (l : List A) (i : ℕ) (a : A) → get_elem? l i ≡ some a → i < length l
-  there_below [] i a e = absurd (some-ne-none a (sym e))
-  there_below (x ∷ xs) zero a e = omega arith
-  there_below (x ∷ xs) (suc i) a e = omega (arith, there_below xs i a e)
-
   pub one_there : (l : List A) (i : ℕ) (a b : A) → get_elem? l i ≡ some a → get_elem? l i ≡ some b → a ≡ b
   one_there l i a b p q = some-injective a b (sym p ∙ q)
 
@@ -44,11 +39,6 @@ module _ {C : Type 0} where
   pub outs_set : (cells : List C) (i : ℕ) (c : C) (out : List (ℕ × C)) → ((k j : ℕ) (d : C) → get_elem? out k ≡ some (j, d) → j ≢ i) → OutsAreIn cells out → OutsAreIn (set cells i c) out
   outs_set cells i c [] apart h = tt
   outs_set cells i c (x ∷ xs) apart h = (set_else cells i x.0 c (apart 0 x.0 x.1 refl) ∙ h.0, outs_set cells i c xs (λ k j d e. apart (suc k) j d e) h.1)
-
-  pub outs_at : (cells : List C) (out : List (ℕ × C)) (k i : ℕ) (c : C) → OutsAreIn cells out → get_elem? out k ≡ some (i, c) → get_elem? cells i ≡ some c
-  outs_at cells [] k i c h e = absurd (some-ne-none (i, c) (sym e))
-  outs_at cells (x ∷ xs) zero i c h e = subst (λ (y : ℕ × C). get_elem? cells y.0 ≡ some y.1) (some-injective x (i, c) e) h.0
-  outs_at cells (x ∷ xs) (suc k) i c h e = outs_at cells xs k i c h.1 e
 
   -- the last that was taken, with its cell
   pub last_out : (i : ℕ) (out : List (ℕ × C)) → IsLastOut i out → (c : C) × (out ≡ (i, c) ∷ rest out)

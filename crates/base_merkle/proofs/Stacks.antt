@@ -99,9 +99,6 @@ joined_node h left right hash size c d l r same is twice =
 some_of : (h : List ℕ → List ℕ) (n : Node) (d : List (List ℕ)) → IsNode h n d → 1 ≤ length d
 some_of h n d node = let one : 1 ≤ 2 ^ node.height = one-le-pow node.height 2 (lit< tt) in omega (arith, node.power)
 
-pub starts : (h : List ℕ → List ℕ) (old : List Node) (node : Node) → Carries h old node old node
-starts h old node = λ leaves d small s n. (leaves, d, refl, s, n)
-
 pub carries_on : (h : List ℕ → List ℕ) (old ns : List Node) (node last carry : Node) (hash : List ℕ)
     (size : ℕ) → Carries h old node (ns ++ last ∷ []) carry → last.size ≡ carry.size
     → hash ≡ h (1 ∷ last.hash ++ carry.hash) → size ≡ min (carry.size * 2) (2 ^ 64 - 1)

@@ -1,6 +1,6 @@
 -- Values of digests, one after another.
-use Rattle.std.proofs.Common.{zero, suc, ◌≡◌, ◌∙◌, ◌++◌, ◌+◌, ◌<◌, ap, ap₂, ℕ, List, [], ◌∷◌, map, length, take, sym, subst, refl, arith}
-use Rattle.std.specs.List.{AllByRecursion, slice_index_or}
+use Rattle.std.proofs.Common.{◌≡◌, ◌∙◌, ◌++◌, ◌+◌, ◌<◌, ap, ap₂, ℕ, List, [], ◌∷◌, map, length, take, sym, subst, refl}
+use Rattle.std.specs.List.{slice_index_or}
 use Rattle.std.proofs.lemmas.List.{take_more, map-append}
 use Rattle.serde_json.specs.View.{view}
 use Rattle.serde_json.specs.declared.value.Value.{Value}
@@ -9,13 +9,6 @@ use Rattle.hex.specs.Hex.{IsBytes}
 use Rattle.format_digest.specs.Moment.{IsMomentText}
 use Rattle.format_digest.specs.Writing.{DigestWithTimes, digest_data, hash_text, shown_data, IsShown, AreShown, IsHash, AreHashes, IsValue, AreValues}
 
--- what holds of all holds at each place
-pub holds_at : {X : Type 0} (P : X → Type 0) (xs : List X) (i : ℕ) (x : X) → AllByRecursion P xs
-    → i < length xs → x ≡ slice_index_or xs i x → P x
-holds_at P [] i x all lt at = absurd (omega arith)
-holds_at P (y ∷ ys) zero x all lt at = subst P (sym at) all.0
-holds_at P (y ∷ ys) (suc i) x all lt at = holds_at P ys i x all.1 (omega arith) at
-
 more_shown : (ss : List DigestWithTimes) (s : DigestWithTimes) → AreShown ss → IsShown s → AreShown (ss ++ s ∷ [])
 more_shown [] s all one = (one, tt)
 more_shown (r ∷ ss) s all one = (all.0, more_shown ss s all.1 one)
@@ -23,9 +16,6 @@ more_shown (r ∷ ss) s all one = (all.0, more_shown ss s all.1 one)
 more_hashes : (ss : List DigestWithTimes) (s : DigestWithTimes) → AreHashes ss → IsHash s.digest.hash → AreHashes (ss ++ s ∷ [])
 more_hashes [] s all one = (one, tt)
 more_hashes (r ∷ ss) s all one = (all.0, more_hashes ss s all.1 one)
-
-pub none_yet : AreValues [] []
-none_yet = record { shown = []; digests = refl; times = tt; hashes = tt; said = refl }
 
 -- one more of a list that is gone through
 pub values_more : (list : List Digest) (i : ℕ) (d : Digest) (values more : List Value) (v : Value)

@@ -67,9 +67,6 @@ pub record IsStored (ty : SqlType) (v : Value) : Type 0 where
   pub stored : is_stored v ty ≡ true
   pub text : is_text v ≡ true
 
-abbrev num : ℕ → ℤ → Value
-num s v = values.Num s v
-
 read_number : (at : Reader ℤ) (s : ℕ) (bytes : List ℕ) (v : ℤ) (z : ℕ) → whole at bytes ≡ Some v → s ≡ z → number_of at z bytes ≡ Some (values.Num s v)
 read_number at s bytes v z e same = rw (e, same) refl
 

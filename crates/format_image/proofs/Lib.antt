@@ -1,7 +1,6 @@
 mod AnyRows
 mod ColumnsRead
 mod DefExact
-mod Each
 pub mod ImageExact
 mod Marks
 mod Places

@@ -21,12 +21,6 @@ creates (s.Alter a) = true
 creates (s.Drop name) = true
 creates _ = false
 
--- it changes a table that there is already: its columns or its names
-abbrev pub alters : Stmt → Bool
-alters (s.Alter a) = true
-alters (s.Drop name) = true
-alters _ = false
-
 -- the rows of this key are among the item
 abbrev pub has_key : Key → Item → Bool
 has_key key item.Whole = true

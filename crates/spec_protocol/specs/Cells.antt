@@ -1,12 +1,12 @@
 -- The cells of a server: the catalog, the ledger, and one for each table of a user.
-use Rattle.std.specs.Prelude.{ℕ, ◌≡◌, zero, suc, ◌-◌, ◌==◌, if◌then◌else◌, List, [], ◌∷◌, map, length}
+use Rattle.std.specs.Prelude.{ℕ, ◌≡◌, zero, suc, ◌-◌, ◌==◌, if◌then◌else◌, List, [], ◌∷◌, length}
 use Rattle.std.specs.Prelude as prelude
 use mathlib.Core.Option.{Option, some, none}
 use lib.ListN.{get_elem?}
 use Rattle.sql_types.specs.declared.journal.JournalItem.{JournalItem}
 use Rattle.sql_types.specs.declared.version.Version.{Version}
 use Rattle.spec_model.specs.Rows.{EventId}
-use Rattle.spec_model.specs.Catalog.{Defs, Tables}
+use Rattle.spec_model.specs.Catalog.{Defs}
 use Rattle.spec_model.specs.SystemTables.{tables_id, columns_id, tables_def, columns_def}
 use Rattle.spec_history.specs.Lists.{Text}
 use Rattle.spec_history.specs.Digests.{Digest}
@@ -111,10 +111,6 @@ versions_found id (some c) = versions_in id c
 -- the versions of the table with this id
 abbrev pub versions_at : List Cell → ℕ → List Version
 versions_at cells id = versions_found id (get_elem? cells (cell_of id))
-
--- these tables, with the versions that the cells have
-abbrev pub stored : List Cell → Defs → Tables
-stored cells defs = map (λ def. record { def = def; versions = versions_at cells def.id }) defs
 
 -- ---- the cells at the beginning
 

@@ -49,10 +49,6 @@ without_last [] = []
 without_last (x ∷ []) = []
 without_last (x ∷ y ∷ ys) = x ∷ without_last (y ∷ ys)
 
-abbrev pub as_many_as : List ℕ → List Index → List Index
-as_many_as (n ∷ ns) (x ∷ xs) = x ∷ as_many_as ns xs
-as_many_as _ _ = []
-
 -- the definition of a refused CREATE INDEX
 abbrev pub refused_def : SessionStatus → Option TableDef
 refused_def (inside text (answering reply (Some def))) = Some def

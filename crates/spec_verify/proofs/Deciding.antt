@@ -1,9 +1,9 @@
 -- Tests decide what sentences say.
 use Rattle.std.proofs.Common.{◌≡◌, ◌<◌, ◌≤◌, ◌⊎◌, ◌∙◌, inl, inr, ℕ, zero, suc, refl, sym, subst, arith, Bool, true, false, true≢false, List, [], ◌∷◌, length}
-use Rattle.std.proofs.lemmas.Bool.Decides.{leb_tells, not_from_Decides, Decides-and}
+use Rattle.std.proofs.lemmas.Bool.Decides.{leb_tells, not_from_Decides}
 use Rattle.std.specs.Bool.{Decides}
 use Rattle.std.specs.Prelude.{◌||◌, not, nat_le, MatchOption}
-use Rattle.std.specs.List.{AllByRecursion, Any, list_any, list_all, slice_index_or}
+use Rattle.std.specs.List.{AllByRecursion, Any, list_any, slice_index_or}
 use Rattle.spec_verify.specs.declared.place.Place.{Place}
 use Rattle.spec_verify.specs.First.{unless}
 
@@ -49,10 +49,6 @@ module _ {A : Type 0} (P : A → Type 0) where
 -- ---- of all, none and some
 
 module _ {A : Type 0} (test : A → Bool) (P : A → Type 0) (each : (x : A) → Decides (test x) (P x)) where
-  pub Decides-all : (xs : List A) → Decides (list_all test xs) (AllByRecursion P xs)
-  Decides-all [] = (λ e. tt, λ h. refl)
-  Decides-all (x ∷ xs) = Decides-and (test x) (list_all test xs) (each x) (Decides-all xs)
-
   -- of none
   pub Decides-none : (xs : List A) → Decides (not (list_any test xs)) (AllByRecursion (λ x. P x → ⊥) xs)
   Decides-none [] = (λ e. tt, λ h. refl)

@@ -114,9 +114,6 @@ module _ {A : Type 0} (cmp : A → A → Ordering) (o : IsTotalOrder cmp) where
       here false e true f = rw (e, f) refl
       here false e false f = rw (e, f, e, upto o a b c e f) refl
 
-  one : (best : Option A) (x : A) → lesser cmp best x ≡ lesser_of cmp best (Some x)
-  one best x = refl
-
   from_split : (best : Option A) (ys : List A) → least_from cmp best ys ≡ lesser_of cmp best (least cmp ys)
   from_split best [] = refl
   from_split best (y ∷ ys) =

@@ -40,10 +40,6 @@ any_same : {A : Type 0} (p q : A → Bool) (xs : List A) → AllByRecursion (λ 
 any_same p q [] h = refl
 any_same p q (x ∷ xs) h = λ i. h.0 i || any_same p q xs h.1 i
 
-none_any : {A : Type 0} (p : A → Bool) (xs : List A) → AllByRecursion (λ x. p x ≡ false) xs → list_any p xs ≡ false
-none_any p [] h = refl
-none_any p (x ∷ xs) h = λ i. h.0 i || none_any p xs h.1 i
-
 one_up : (n : ℕ) → 1 + n ≡ suc n
 one_up n = omega arith
 

@@ -32,10 +32,6 @@ abbrev pub Under : Option ℕ → Option (Kind × ℕ) → Type 0
 Under None p = Unit {0}
 Under (Some n) p = AtMost n p
 
-abbrev pub Small : ℕ → Option ℕ → Type 0
-Small n None = Unit {0}
-Small n (Some m) = m ≤ n
-
 none_past : (of : List ℕ → Option Kind) (z : List ℕ) (p : Option (Kind × ℕ)) (n m : ℕ) → AtMost n p → Found of z p → n < m → m ≤ length z → of (take m z) ≡ None
 none_past of z None n m small found lt le = found m le
 none_past of z (Some t) n m small found lt le = found.3 m (omega (arith, small)) le

@@ -1,21 +1,13 @@
 -- The declared columns, and those that a part adds.
-use Rattle.std.proofs.Common.{◌≡◌, ◌+◌, ◌<◌, ◌∙◌, ℕ, suc, zero, ap, sym, ◌⊎◌, List, [], ◌∷◌, ◌++◌, map, length, get_or, slice_get, Bor, Some, arith}
-use mathlib.Core.Logic.{inl, inr}
+use Rattle.std.proofs.Common.{◌≡◌, ◌+◌, ◌<◌, ◌∙◌, ℕ, suc, zero, ap, sym, List, [], ◌∷◌, ◌++◌, map, length, get_or, slice_get, Bor, Some, arith}
 use Rattle.std.specs.Str.{bytes_eq}
 use Rattle.std.specs.Prelude.{option_and_then, option_map, position}
 use Rattle.sql_value.specs.declared.sql_type.SqlType.{SqlType}
 use Rattle.sql_value.specs.declared.column.ColumnDef.{ColumnDef}
-use Rattle.sql_types.specs.declared.table.Part.{Part}
-use Rattle.sql_types.specs.declared.table.Part.TheVariants.{Base, System}
 use Rattle.spec_model.specs.Columns.{place_of, column_of}
 use Rattle.spec_model.specs.Lists.{or_else}
-use Rattle.spec_model.specs.Parts.{added, added_column, start_columns}
+use Rattle.spec_model.specs.Parts.{added_column}
 use Rattle.sql_parts.proofs.Positions.{position_both, position_map, item_both}
-
--- a base table and a system table hide the start
-pub hidden : (part : Part) → (part ≡ Base) ⊎ (part ≡ System) → added part ≡ start_columns
-hidden part (inl is) = ap added is
-hidden part (inr is) = ap added is
 
 pub place_of_both : (declared more : List ColumnDef) (name : List ℕ)
     → place_of (declared ++ more) name ≡ or_else (place_of declared name) (option_map (λ n. length declared + n) (place_of more name))

@@ -46,10 +46,5 @@ pub as_many_pairs : {A B : Type 0} (f : A → Checked B) (xs : List A) (ys : Lis
 as_many_pairs f [] ys same = refl
 as_many_pairs f (x ∷ xs) ys same = pairs_step x xs (f x) (checked_map f xs) ys (as_many_pairs f xs) same
 
-pub seconds_ended : {A B C : Type 0} (f : B → C) (xs : List A) (ys : List B) → length ys ≡ 0 → zip xs (map f ys) ≡ []
-seconds_ended f [] [] h = refl
-seconds_ended f (x ∷ xs) [] h = refl
-seconds_ended f xs (y ∷ ys) h = absurd (omega (arith, h))
-
 pub pairs_of_each : {A B C : Type 0} (seen : A → B) (f : B → Checked C) (xs : List A) (ys : List C) → checked_map f (map seen xs) ≡ Ok ys → length (zip (map seen xs) ys) ≡ length xs
 pairs_of_each seen f xs ys same = as_many_pairs f (map seen xs) ys same ∙ length-map xs seen

@@ -1,6 +1,5 @@
 -- What functions need of the tables of a script that is begun.
-use Rattle.std.proofs.Common.{◌≡◌, ◌≤◌, ◌<◌, ℕ, refl, List, [], ◌∷◌, length, Option, Some, None, arith}
-use Rattle.std.specs.Prelude.{◌-◌, ◌^◌}
+use Rattle.std.proofs.Common.{◌≡◌, ◌≤◌, ℕ, refl, List, [], ◌∷◌, length, Option, Some, None, arith}
 use Rattle.std.specs.List.{AllByRecursion}
 use Rattle.sql_types.specs.declared.version.Table.{Table}
 use Rattle.sql_types.specs.declared.table.TableDef.{TableDef}
@@ -45,17 +44,8 @@ unfolding state_of
 ready T b h = ((h.script.place, h.script.kept), h.script.described)
 
 module _ (tx seq : ℕ) (T : Tables) (h : IsReady tx seq T) where
-  pub ready_sound : Sound tx seq T
-  ready_sound = h.0.1.sound
-
   pub ready_ids : IdsFrom 1 (defs_of T)
   ready_ids = h.0.1.sound.ids
-
-  pub ready_count : length (defs_of T) < 2 ^ 32 - 1
-  ready_count = omega (arith, h.1.count)
-
-  pub ready_columns : AllByRecursion (λ (def : TableDef). length def.columns < 2 ^ 16 - 1) (defs_of T)
-  ready_columns = all_weaker (λ (def : TableDef). length def.columns ≤ 64) (λ (def : TableDef). length def.columns < 2 ^ 16 - 1) (λ def le. omega (arith, le)) (defs_of T) h.1.few
 
   short_table : (t : Table) → (length t.def.columns ≤ 64) × KeptTable h.0.0 (tx, seq) t → AllByRecursion IsShort t.versions
   short_table t k = all_weaker (λ v. FitsSoFar t.def.columns v.values) IsShort (λ v f. omega (arith, few t.def.columns v.values f, k.0)) t.versions k.1.fit

@@ -1,10 +1,9 @@
 -- Numbers in greater units.
-use Rattle.std.proofs.Common.{◌≡◌, ℕ, suc, ◌+◌, ◌/◌, ◌^◌, ◌≤◌, ◌<◌, ◌-◌, refl, sym, ap, ◌∙◌, arith, lit<, inl, inr}
-use Rattle.std.specs.Prelude.{ℤ, pos, negsuc, ◌-ℤ◌, ◌<ℤ◌, ◌≤ℤ◌, neg_ℤ}
+use Rattle.std.proofs.Common.{◌≡◌, ℕ, suc, ◌+◌, ◌/◌, ◌^◌, ◌≤◌, ◌<◌, ◌-◌, sym, ap, ◌∙◌, arith, lit<, inl, inr}
+use Rattle.std.specs.Prelude.{ℤ, pos, negsuc, neg_ℤ}
 use Rattle.std.proofs.Math.Nat.{pow-le-pow_right, div-lt_iff_lt-mul}
-use Rattle.std.proofs.lemmas.Int.{ints}
 use Rattle.std.proofs.lemmas.Bool.{cases_lt}
-use Rattle.sql_value.specs.Number.{raised, rounded, rounded_size, rescaled, with_sign}
+use Rattle.sql_value.specs.Number.{raised, rounded, rounded_size, rescaled}
 use Rattle.sql_value.proofs.Numbers.{ten_pos, raised_none}
 
 -- a unit that 128 bits don't hold is of 39 places or more
@@ -32,14 +31,6 @@ rounded_small n k most some =
 pub quotient_small : (n k unit : ℕ) → unit ≡ 10 ^ k → n ≤ 2 ^ 127 → 1 ≤ k → (n + unit / 2) / unit < 2 ^ 124
 unfolding rounded_size
 quotient_small n k unit is most some = rw is (rounded_small n k most some)
-
-pub negative : (v : ℤ) (m : ℕ) → v <ℤ pos 0 → pos 0 -ℤ pos m ≡ with_sign v m
-negative (pos n) m h = absurd (omega (arith, ints))
-negative (negsuc n) m h = omega (arith, ints)
-
-pub positive : (v : ℤ) (m : ℕ) → pos 0 ≤ℤ v → pos m ≡ with_sign v m
-positive (pos n) m h = refl
-positive (negsuc n) m h = absurd (omega (arith, ints))
 
 size_same : (n : ℕ) → rounded_size n 0 ≡ n
 unfolding rounded_size
