@@ -10,5 +10,4 @@ mod NotedLeaves
 mod Placing
 mod Redefining
 mod Shown
-mod Taking
 mod Visits

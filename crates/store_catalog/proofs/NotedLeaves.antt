@@ -9,7 +9,7 @@ use Rattle.spec_protocol.specs.Doing.{grown}
 use Rattle.spec_protocol.specs.Moves.{noting}
 use Rattle.spec_protocol.specs.Seats.{Tree, OpenTransaction}
 use Rattle.store_tx.specs.Leaves.{leaves_in, with_leaf}
-use Rattle.store_tx.specs.Represents.{Represents, IsOpen, MayNote}
+use Rattle.store_tx.specs.Represents.{Represents, IsOpen}
 use Rattle.store_tx.specs.Trees.{tree_of, IsTree}
 use Rattle.store_tx.specs.declared.context.TxCtx.{TxCtx}
 use Rattle.store_tx.proofs.Leaves.{leaf_here, leaf_elsewhere}
@@ -75,22 +75,6 @@ module _ {H : Type 0} (digest : H → List ℕ → List ℕ) where
     open_savepoints = r.open_savepoints;
     kept = r.kept;
   }
-
-  pub none_noted : (h : H) (c : TxCtx H) (o : OpenTransaction) (n : ℕ) → n ≡ o.seq → Represents digest h c o → Represents digest h c (noting n o.trees o)
-  none_noted h c o n is r = record {
-    hasher = r.hasher;
-    id = r.id;
-    explicit = r.explicit;
-    seq = r.seq ∙ sym is;
-    few = λ id. subst (λ (k : ℕ). length (leaves_in id o.trees) ≤ k) (sym is) (r.few id);
-    trees = r.trees;
-    differ = r.differ;
-    open_savepoints = r.open_savepoints;
-    kept = r.kept;
-  }
-
-  pub may_note : (table count : ℕ) (c : TxCtx H) → 1 ≤ count → MayNoteMany digest table count c → MayNote digest table c
-  may_note table count c some m = record { h = m.h; o = m.o; is = m.is; open_tree = m.open_tree; room = omega (arith, some, m.room) }
 
   pub may_note_rest : (table count rest : ℕ) (leaf : List ℕ) (c d : TxCtx H) → rest + 1 ≡ count
       → ((h : H) (o : OpenTransaction) → Represents digest h c o → Represents digest h d (noting (o.seq + 1) (with_leaf table leaf o.trees) o))

@@ -47,10 +47,6 @@ item_kept holds k p inside = rw (← take-map item_of k holds) (get_or-take k (m
 
 -- ---- picked holds
 
-pub picked_none : (holds : List Hold) → picked holds [] ≡ []
-unfolding picked
-picked_none holds = refl
-
 pub picked_more : (holds : List Hold) (places : List ℕ) (i : ℕ) (h : Hold) → i < length places → slice_get holds (get_or places i 0) ≡ Some h
     → picked holds (take (i + 1) places) ≡ picked holds (take i places) ++ h ∷ []
 unfolding picked

@@ -84,9 +84,6 @@ module _ {X : Type 0} (size : ℕ) where
       pub room_packed : (off place : ℕ) → place ≡ size * at + off → off < size → place ≤ length (flat ps) → off ≤ length (get_or ps at d)
       room_packed off place is small within = omega (arith, long)
 
-      pub within_packed : (off place : ℕ) → place ≡ size * at + off → off < size → place < length (flat ps) → off < length (get_or ps at d)
-      within_packed off place is small within = omega (arith, long)
-
       get_there : (off place : ℕ) → place ≡ size * at + off → off < size → slice_get (flat ps) place ≡ slice_get (get_or ps at d) off
       get_there off place is small =
           sym (slice_get-drop (size * at) (flat ps) off place is) ∙ sym (slice_get-take size (drop (size * at) (flat ps)) off small)

@@ -33,10 +33,6 @@ module _ (places : List ℕ) (vs : List Version) (r : Rising vs) where
   sorted_by_key : sorted by_key (live vs) ≡ in_order [] places vs
   sorted_by_key = (λ i. sorted (λ v w. row_is places [] v w i) (live vs)) ∙ rows_in_order [] places vs r
 
-  pub all_in_order : live_by_key_at places None vs ≡ in_order [] places vs
-  unfolding live_by_key_at
-  all_in_order = sorted_by_key
-
   pub one_in_order : (k : Key) → live_by_key_at places (Some k) vs ≡ filter (λ v. same_key (version_key_at places v) k) (in_order [] places vs)
   unfolding live_by_key_at
   one_in_order k =

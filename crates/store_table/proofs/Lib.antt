@@ -10,7 +10,6 @@ mod Found
 mod InOrder
 mod Keeping
 mod Last
-mod LeavesMade
 mod Moves
 pub mod Noted
 mod OfKey

@@ -1,7 +1,7 @@
 -- The leaves of events in the trees of a transaction.
 use Rattle.std.proofs.Common.{◌≡◌, ◌≢◌, ◌<◌, ◌≤◌, ◌+◌, ℕ, refl, sym, ap, subst, ◌∙◌, Bool, true, false, List, [], ◌∷◌, ◌++◌, length, map, take, get_or, zero, suc, ⊎_elim, arith}
 use Rattle.std.proofs.lemmas.Bool.{cases_eq, ne_eqb, eq-eqb, eqb-true}
-use Rattle.std.proofs.lemmas.List.{append-nil, append_assoc, take_all}
+use Rattle.std.proofs.lemmas.List.{append-nil, append_assoc}
 use Rattle.std.specs.Prelude.{◌==◌, if◌then◌else◌}
 use Rattle.sql_types.specs.declared.event.Event.{Event}
 use Rattle.format_event.specs.Leaf.{event_bytes}
@@ -9,7 +9,7 @@ use Rattle.spec_protocol.specs.Doing.{grown}
 use Rattle.spec_protocol.specs.Moves.{noting}
 use Rattle.spec_protocol.specs.Seats.{OpenTransaction, Tree}
 use Rattle.store_tx.specs.Leaves.{leaves_in, with_leaf}
-use Rattle.store_tx.specs.Represents.{IsOpen, MayNote, Represents}
+use Rattle.store_tx.specs.Represents.{IsOpen, Represents}
 use Rattle.store_tx.specs.Trees.{tree_of, IsTree}
 use Rattle.store_tx.specs.declared.context.TxCtx.{TxCtx}
 use Rattle.store_tx.proofs.Leaves.{leaf_here, leaf_elsewhere}
@@ -92,22 +92,7 @@ pub record Noting {H : Type 0} (digest : H → List ℕ → List ℕ) (table k :
   pub open_tree : IsOpen table now
 
 module _ {H : Type 0} (digest : H → List ℕ → List ℕ) (table : ℕ) (leaves : List (List ℕ)) (was : TxCtx H) (may : MayNoteAll digest table (length leaves) was) where
-  pub noting_first : Noting digest table 0 leaves was was
-  noting_first = record {
-    noted = λ h o r. subst (λ (n : ℕ). Represents digest h was (noting n o.trees o)) {x = o.seq} (omega arith) r;
-    open_tree = may.open_tree;
-  }
-
   module _ (k : ℕ) (now : TxCtx H) (inside : k < length leaves) (so_far : Noting digest table k leaves was now) where
-    pub may_note : MayNote digest table now
-    may_note = record {
-      h = may.h;
-      o = noting (may.o.seq + k) (with_leaves table (take k leaves) may.o.trees) may.o;
-      is = so_far.noted may.h may.o may.is;
-      open_tree = so_far.open_tree;
-      room = (let r = may.room in omega (arith, r, inside));
-    }
-
     pub noting_one : (new : TxCtx H) (leaf item : List ℕ) → leaf ≡ item → item ≡ get_or leaves k item
         → ((h : H) (o : OpenTransaction) → Represents digest h now o → Represents digest h new (noting (o.seq + 1) (with_leaf table leaf o.trees) o))
         → ((id : ℕ) → IsOpen id now → IsOpen id new) → Noting digest table (k + 1) leaves was new
@@ -122,10 +107,3 @@ module _ {H : Type 0} (digest : H → List ℕ → List ℕ) (table : ℕ) (leav
               (noted h (noting (o.seq + k) (with_leaves table (take k leaves) o.trees) o) (so_far.noted h o r))));
           open_tree = still_open table so_far.open_tree;
         }
-
-  pub noting_done : (k : ℕ) (now : TxCtx H) → length leaves ≤ k → k ≤ length leaves → Noting digest table k leaves was now
-      → (h : H) (o : OpenTransaction) → Represents digest h was o → Represents digest h now (noting (o.seq + length leaves) (with_leaves table leaves o.trees) o)
-  noting_done k now over within so_far h o r =
-      let all : k ≡ length leaves = omega (arith, over, within) in
-      subst (λ (ls : List (List ℕ)). Represents digest h now (noting (o.seq + length leaves) (with_leaves table ls o.trees) o)) (take_all (length leaves) leaves (omega arith))
-      (subst (λ (n : ℕ). Represents digest h now (noting (o.seq + n) (with_leaves table (take n leaves) o.trees) o)) all (so_far.noted h o r))

@@ -1,5 +1,5 @@
 -- Indexes that are changed one after another.
-use Rattle.std.proofs.Common.{◌≡◌, ◌<◌, ◌≤◌, ◌+◌, ℕ, zero, suc, refl, sym, ap, subst, ◌∙◌, List, [], ◌∷◌, ◌++◌, map, length, get_or, take, drop, arith}
+use Rattle.std.proofs.Common.{◌≡◌, ◌<◌, ◌+◌, ℕ, zero, suc, refl, sym, ap, subst, ◌∙◌, List, [], ◌∷◌, ◌++◌, map, length, get_or, take, drop, arith}
 use Rattle.std.specs.Prelude.{slice_set}
 use Rattle.std.proofs.Math.Seq.{take-append_seam}
 use Rattle.std.proofs.lemmas.List.{length-map}
@@ -13,11 +13,6 @@ pub record Passing {X : Type 0} (f : Index → X) (P Q : Index → Type 0) (was 
   pub left : AllByRecursion Q (drop i now)
   pub same : map f now ≡ map f was
   pub room : (n : ℕ) → AllByRecursion (HasCapacity n) was → AllByRecursion (HasCapacity n) now
-
-next_of : (Q : Index → Type 0) (xs : List Index) (i : ℕ) (x : Index) → i < length xs → x ≡ get_or xs i x → AllByRecursion Q (drop i xs) → Q x
-next_of Q [] i x inside is h = absurd (omega (arith, inside))
-next_of Q (y ∷ ys) zero x inside is h = subst Q (sym is) h.0
-next_of Q (y ∷ ys) (suc i) x inside is h = next_of Q ys i x (omega (arith, inside)) is h
 
 done_more : (P : Index → Type 0) (xs : List Index) (i : ℕ) (y : Index) → i < length xs → P y → AllByRecursion P (take i xs) → AllByRecursion P (take (suc i) (slice_set xs i y))
 done_more P [] i y inside p h = absurd (omega (arith, inside))
@@ -39,15 +34,7 @@ all_set P [] i x y inside is g h = absurd (omega (arith, inside))
 all_set P (z ∷ zs) zero x y inside is g h = (g (subst P (sym is) h.0), h.1)
 all_set P (z ∷ zs) (suc i) x y inside is g h = (h.0, all_set P zs i x y (omega (arith, inside)) is g h.1)
 
-taken_all : (P : Index → Type 0) (xs : List Index) (i : ℕ) → length xs ≤ i → AllByRecursion P (take i xs) → AllByRecursion P xs
-taken_all P [] i le h = tt
-taken_all P (x ∷ xs) zero le h = absurd (omega (arith, le))
-taken_all P (x ∷ xs) (suc i) le h = (h.0, taken_all P xs i (omega (arith, le)) h.1)
-
 module _ {X : Type 0} (f : Index → X) (P Q : Index → Type 0) (was now : List Index) (i : ℕ) (h : Passing f P Q was now i) where
-  pub next_is : (x : Index) → i < length now → x ≡ get_or now i x → Q x
-  next_is x inside is = next_of Q now i x inside is h.left
-
   pub passing_step : (x y : Index) → i < length now → x ≡ get_or now i x → P y → f y ≡ f x → ((n : ℕ) → HasCapacity n x → HasCapacity n y) → Passing f P Q was (slice_set now i y) (i + 1)
   passing_step x y inside is p same room = subst (λ (n : ℕ). Passing f P Q was (slice_set now i y) n) {x = suc i} (omega arith)
       (record {
@@ -63,9 +50,6 @@ module _ {X : Type 0} (f : Index → X) (P Q : Index → Type 0) (was now : List
 
   pub room_step : (x y : Index) → i < length now → x ≡ get_or now i x → ((n : ℕ) → HasCapacity n x → HasCapacity n y) → (n : ℕ) → AllByRecursion (HasCapacity n) was → AllByRecursion (HasCapacity n) (slice_set now i y)
   room_step x y inside is room n r = all_set (HasCapacity n) now i x y inside is (room n) (h.room n r)
-
-  pub passed : length now ≤ i → AllByRecursion P now
-  passed le = taken_all P now i le h.done
 
 pub passing_first : {X : Type 0} (f : Index → X) (P Q : Index → Type 0) (was now : List Index) → now ≡ was → AllByRecursion Q was → Passing f P Q was now 0
 passing_first f P Q was now same h = subst (λ l. Passing f P Q was l 0) (sym same) (record { done = tt; left = h; same = refl; room = λ n r. r })

@@ -59,9 +59,6 @@ module _ (tx seq : ℕ) where
   none_left (v ∷ vs) h k =
       rw k.0 (ap₂ (λ (o : Option EventId) (l : List Version). record { values = v.values; start = v.start; end = o } ∷ l) h.0 (none_left vs h.1 k.1))
 
-  end_stays : (o : Option EventId) (e : EventId) → o ≡ Some e → is_undone tx seq e ≡ false → end_left tx seq o ≡ o
-  end_stays o e is h = rw is (rw h refl)
-
   no_own : (o : Option EventId) (start : EventId) (es : List Ending) → AllByRecursion (λ (e : Ending). is_undone tx seq e.end ≡ false) (own_ending o start ++ es)
       → (end_left tx seq o ≡ o) × AllByRecursion (λ (e : Ending). is_undone tx seq e.end ≡ false) es
   no_own None start es h = (refl, h)

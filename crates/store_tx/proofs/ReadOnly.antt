@@ -28,9 +28,6 @@ module _ {H : Type 0} (digest : H → List ℕ → List ℕ) where
   none_of count [] is none = refl
   none_of count (x ∷ xs) is none = absurd (omega (arith, is, none))
 
-  pub none_yet : (ts : List (TableTree H)) → NoLeafSoFar ts 0
-  none_yet ts h leaves holds = tt
-
   pub quiet_more : (ts : List (TableTree H)) (i : ℕ) (t : TableTree H) (count : ℕ)
       → i < length ts → t ≡ get_or ts i t → count ≡ 0
       → ((h : H) (leaves : List (List ℕ)) → Holds digest h t.frontier leaves → count ≡ length leaves)

@@ -118,9 +118,6 @@ module _ {H : Type 0} (digest : H → List ℕ → List ℕ) where
 
   -- ---- going back
 
-  pub none_kept : (h : H) (tables : List ℕ) (f : OpenSavepoint) (fs : List OpenSavepoint) → RepresentSavepoints (digest h) tables [] (f ∷ fs) → ⊥
-  none_kept h tables f fs k = let len = length-append k.0 (k.1 ∷ []) in omega (arith, ap length k.2, len)
-
   pub some_kept : (h : H) (tables : List ℕ) (ss : List Savepoint) (n : ℕ) → 0 < n → n ≤ length ss → RepresentSavepoints (digest h) tables (take n ss) [] → ⊥
   some_kept h tables ss n some le k = let len = length-take-le n ss le in omega (arith, some, len, ap length k)
 

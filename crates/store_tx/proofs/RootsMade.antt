@@ -63,9 +63,6 @@ module _ {H : Type 0} (digest : H → List ℕ → List ℕ) where
   MadeSoFar ts i roots = (h : H) (leaves : ℕ → List (List ℕ)) → Differ (tables_of ts) → Each (λ t. Holds digest h t.frontier (leaves t.table)) ts
       → Made (digest h) leaves (take i ts) roots
 
-  pub none_made : (ts : List (TableTree H)) → MadeSoFar ts 0 []
-  none_made ts h leaves d k = record { rise = tt; from = tt; all = tt }
-
   module _ (h : List ℕ → List ℕ) (leaves : ℕ → List (List ℕ)) where
     abbrev From : List (TableTree H) → Root → Type 0
     From ts z = (t : TableTree H) × In t ts × (leaves t.table ≢ []) × (z ≡ (t.table, tree_hash h (leaves t.table)))
@@ -255,9 +252,3 @@ pub all_made : {H : Type 0} (digest : H → List ℕ → List ℕ) (ts : List (T
     → (h : H) (trees : List Tree) → Differ (tables_of ts) → Differ (map (λ t. t.table) trees) → TreesHold digest h ts trees → roots ≡ roots_of_trees (digest h) trees
 all_made digest ts i roots le so h trees d e k = are_meant digest h ts trees d e k roots
     (subst (λ us. Made digest (digest h) (λ id. leaves_in id trees) us roots) (take_all i ts le) (so h (λ id. leaves_in id trees) d (holds_each digest h ts trees d e k)))
-
--- ---- one root
-
-pub no_root : (h : List ℕ → List ℕ) (table count : ℕ) (leaves : List (List ℕ)) (roots : List Root) → count ≡ length leaves → count ≡ 0 → roots ≡ with_root h table leaves roots
-no_root h table count [] roots e z = refl
-no_root h table count (x ∷ xs) roots e z = absurd (omega (arith, e, z))

@@ -1,12 +1,8 @@
-use Rattle.std.proofs.Common.{◌∙◌, Bor}
+use Rattle.std.proofs.Common.{◌∙◌}
 use Rattle.std.proofs.lemmas.Result.{IfOk-weaker}
-use Rattle.sql_types.specs.declared.version.Version.{Version}
 use Rattle.spec_model.specs.Keys.{key_places}
 use Rattle.store_table.proofs.OfKey.{same_live_by_key}
 use Rattle.store_table.proofs.live_by_key.VersionStoreLiveVersions.in_key_order.Goals as goal
-
-abbrev seen : Bor Version → Version
-seen v = v.now
 
 pub returns : goal.returns
 returns c =
