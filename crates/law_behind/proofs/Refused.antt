@@ -24,7 +24,7 @@ use Rattle.spec_history.proofs.Settles.{settles}
 use Rattle.spec_history.proofs.Clash.{against_run, against_step}
 use Rattle.spec_history.proofs.Signs.{marks_same, shows_facts, ids_facts, first_is}
 use Rattle.spec_history.proofs.TransactionLogs.{within_of, AllAnswered, all_answered}
-use Rattle.spec_history.proofs.Closing.{Closes, Leaves, closed, spans}
+use Rattle.spec_history.proofs.Closing.{Closes, closed, spans}
 use Rattle.spec_history.proofs.Follow.{shown_append}
 use Rattle.spec_history.proofs.Setup.{shows_weaker, not_nil, nil_left}
 use Rattle.spec_history.proofs.Refused.{below_or_nil, each_left, each_right}
@@ -205,9 +205,6 @@ module _ (q : Meaning) (db : Text) (past : Past) where
 
       after_holder : (f : Fact → List ℕ) (P : ℕ → Type 0) (cl : Closes (all_shown (of t c.later))) → Shows f P (all_shown (of t c.later)) → Shows f P cl.after
       after_holder f P cl h = (each_right (λ x. Each P (f x)) cl.inside (over ∷ cl.after) (subst (Shows f P) cl.is h)).1
-
-      in_rest : (f : Fact → List ℕ) (P : ℕ → Type 0) (lf : Leaves (all_shown (of t c.later))) → Shows f P (all_shown (of t c.later)) → Shows f P lf.rest
-      in_rest f P lf h = each_right (λ x. Each P (f x)) lf.inside lf.rest (subst (Shows f P) lf.is h)
 
       before_holder : (f : Fact → List ℕ) (P : ℕ → Type 0) → Shows f P (all_shown (of t c.earlier)) → Shows f P standing.before
       before_holder f P h = each_left (λ x. Each P (f x)) standing.before (began m.theirs.id m.theirs.explicit ∷ standing.inside) (subst (Shows f P) standing.is h)

@@ -37,10 +37,6 @@ each_in : (P : ℕ → Type 0) (ns : List ℕ) (n : ℕ) → Each P ns → In n 
 each_in P [] n h i = absurd i
 each_in P (m ∷ ns) n h i = ⊎_elim (λ (e : m ≡ n). subst P e h.0) (λ (j : In n ns). each_in P ns n h.1 j) i
 
-ids_one : (P : ℕ → Type 0) (item : JournalItem) (J : List JournalItem) → Each P (ids_of (item ∷ [])) → Each P (ids_of J) → Each P (ids_of (item ∷ J))
-ids_one P (Tx id session time explicit script) J h k = (h.0, k)
-ids_one P (Close n) J h k = k
-
 ids_both : (P : ℕ → Type 0) (J K : List JournalItem) → Each P (ids_of J) → Each P (ids_of K) → Each P (ids_of (J ++ K))
 ids_both P [] K h k = k
 ids_both P (Tx id session time explicit script ∷ J) K h k = (h.0, ids_both P J K h.1 k)

@@ -26,19 +26,6 @@ has_id n (d ∷ ds) ids def a = elim a [
   | inr q ↦ (let r : HasId (n + 1) ds def = has_id (n + 1) ds ids.1 def q in record { from = omega (arith, r.from); below = omega (arith, r.below) })
 ]
 
-pub only_one : (n : ℕ) (ds : Defs) → IdsFrom n ds → (d e : TableDef) → IsAmong d ds → IsAmong e ds → d.id ≡ e.id → d ≡ e
-only_one n [] ids d e a b same = absurd a
-only_one n (x ∷ ds) ids d e a b same = elim a [
-  | inl p ↦ elim b [
-    | inl q ↦ sym p ∙ q
-    | inr q ↦ (let k = same_ids x d p in let r : HasId (n + 1) ds e = has_id (n + 1) ds ids.1 e q in absurd (omega (arith, ids.0, k, same, r.from)))
-  ]
-  | inr p ↦ elim b [
-    | inl q ↦ (let k = same_ids x e q in let r : HasId (n + 1) ds d = has_id (n + 1) ds ids.1 d p in absurd (omega (arith, ids.0, k, same, r.from)))
-    | inr q ↦ only_one (n + 1) ds ids.1 d e p q same
-  ]
-]
-
 pub of_among : (P : TableDef → Type 0) (ds : Defs) → AllByRecursion P ds → (def : TableDef) → IsAmong def ds → P def
 of_among P [] h def a = absurd a
 of_among P (d ∷ ds) h def a = elim a [ inl p ↦ subst P p h.0 | inr q ↦ of_among P ds h.1 def q ]

@@ -51,13 +51,6 @@ are_those rows wanted h =
 
 -- ---- ids
 
-same_id : (m n : ℤ) → int_eq m n ≡ true → m ≡ n
-same_id m n e = here (int_eq m n) (Decides-int_eq m n) e
-  where
-    here : (b : Bool) → Decides b (m ≡ n) → b ≡ true → m ≡ n
-    here true d k = grind arith
-    here false d k = cc
-
 itself : (n : ℤ) → int_eq n n ≡ true
 itself n = here (int_eq n n) (Decides-int_eq n n)
   where

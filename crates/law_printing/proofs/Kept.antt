@@ -25,9 +25,6 @@ abbrev pub Holds : {A : Type 0} → (A → Type 0) → Outcome A → Type 0
 Holds P None = ⊤
 Holds P (Some q) = P q.0 × AreSyms q.1.rest
 
-abbrev pub Keeps : {A : Type 0} → (A → Type 0) → Parser A → Type 0
-Keeps P p = (i : Input) → AreSyms i.rest → Holds P (p i)
-
 abbrev pub Always : {A : Type 0} → A → Type 0
 Always a = ⊤
 

@@ -3,9 +3,7 @@ use Rattle.std.proofs.Common.{◌≡◌, ◌∙◌, ℕ, zero, suc, ◌+◌, ◌
 use Rattle.sql_value.specs.declared.sql_type.SqlType.{SqlType}
 use Rattle.sql_value.specs.declared.sql_type.SqlType.TheVariants as sql
 use Rattle.sql_value.specs.declared.column.ColumnDef.{ColumnDef}
-use Rattle.sql_types.specs.declared.statement.CreateTable.{CreateTable}
 use Rattle.spec_syntax.specs.declared.tag.Tag.TheVariants as t
-use Rattle.spec_syntax.specs.declared.word.TypeName.{TypeName}
 use Rattle.spec_syntax.specs.declared.word.OptionName.{OptionName}
 use Rattle.spec_syntax.specs.declared.word.OptionName.TheVariants as option
 use Rattle.spec_syntax.specs.declared.column.Column.{Column}
@@ -29,10 +27,6 @@ use Rattle.law_printing.proofs.Gets.{Gets, then_gets, map_gets}
 use Rattle.law_printing.proofs.ReadParts.{name_list_gets}
 
 -- ---- types
-
-type_read : (w : List ℕ) (ty : TypeName) (rest : List Sym) (n : ℕ) → type_name w ≡ Some ty → type_word (at_ (word w ∷ rest) n) ≡ Some (ty, at_ rest n)
-unfolding type_word name tag text next
-type_read w ty rest n is = rw is refl
 
 digits_read : (m : ℕ) (rest : List Sym) (n : ℕ) → IsSize m → b.digits (at_ (digits m ∷ rest) n) ≡ Some (m, at_ rest n)
 unfolding b.digits tag text next
@@ -123,9 +117,6 @@ enough (d ∷ ds) = omega (arith, enough ds, length-append (s.column d) (rest_li
 column_some : (c : ColumnDef) → 0 < length (s.column c)
 unfolding s.column
 column_some c = omega arith
-
-abbrev items_of : CreateTable → List Sym → List Sym
-items_of x rest = s.table_items x ++ key t.Close ∷ rest
 
 pub items_gets : (c : ColumnDef) (cs : List ColumnDef) (ks : List (List ℕ)) (rest : List Sym) (n : ℕ) → IsColumn c → Each IsColumn cs → OneOrMore IsName ks
     → Gets (b.items b.no_items (at_ ((listed s.column (c ∷ cs) ++ key t.Comma ∷ key t.Primary ∷ key t.Key ∷ s.names ks) ++ key t.Close ∷ rest) n)) (record { columns = drafted c ∷ map drafted cs; key = Some ks }) (key t.Close ∷ rest)

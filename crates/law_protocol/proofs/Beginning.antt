@@ -154,18 +154,6 @@ module _ (database : Text) (size : ℕ) where
   none_open : (j : ℕ) (x : Session) (o : OpenTransaction) → HasOpen (seat ∷ []) j x o → ⊥
   none_open j x o h = subst NoSession h.role (subst IsIdle h.there (idle_at j))
 
-  -- it is the only one
-  abbrev IsFirst : ℕ → mathlib.Core.Option.Option SeatState → Type 0
-  IsFirst j none = Unit {0}
-  IsFirst j (some s) = j ≡ 0
-
-  first_at : (j : ℕ) → IsFirst j (get_elem? (seat ∷ []) j)
-  first_at zero = refl
-  first_at (suc j) = tt
-
-  is_first : (j : ℕ) (s : SeatState) → get_elem? (seat ∷ []) j ≡ some s → j ≡ 0
-  is_first j s e = subst (IsFirst j) e (first_at j)
-
   module _ (v : Server) where
     abbrev no_sessions : Numbers
     no_sessions = record { past = []; now = None }

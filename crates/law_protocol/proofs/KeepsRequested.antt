@@ -31,7 +31,7 @@ use Rattle.spec_protocol.specs.Moves.{InOpenTransaction, at_place, then_at, visi
 use Rattle.spec_protocol.specs.LocksAreRequested.{LocksAreRequested, RequestsCatalog}
 use Rattle.spec_protocol.specs.LocksCover.{HasLock, LookedFirst}
 use Rattle.spec_protocol.specs.OpenOnes.{HasOpen}
-use Rattle.spec_protocol.specs.Seats.{OpenTransaction, SessionStatus, StatementProgress, begun, found, going_back, inside, Role, idle, session, builder, kept, split, Session, SeatState}
+use Rattle.spec_protocol.specs.Seats.{OpenTransaction, StatementProgress, begun, found, going_back, inside, Role, idle, session, builder, kept, split, Session, SeatState}
 use Rattle.spec_protocol.specs.Server.{Server}
 use Rattle.spec_protocol.specs.StandTogether.{History, Stands}
 use Rattle.spec_protocol.specs.Visits.{Visit, assign_id, look, read_system, create_table, create_index, alter_table, refuse_create, stop_in_catalog, change, refuse_change, read, stop_in_table, add_index, undo_to, commit, read_point, release, release_catalog, give_back, close, issue, lack_block, keep, nothing, Happens}
@@ -163,9 +163,6 @@ module _ (v : Server) (cells : List Cell) (seats : List SeatState) {history : Hi
 
   still_had : OthersHad c
   still_had k y p ne has lock = lock
-
-  not_first : (x : Session) (place : SessionStatus) {A : Type 0} → x.place ≡ place → (LookedFirst place → ⊥) → LookedFirst x.place → A
-  not_first x place at never f = absurd (never (subst LookedFirst at f))
 
   place_of : (o : OpenTransaction) (at : InOpenTransaction v s o) (stage : StatementProgress) → at.stands.stage ≡ stage → at.stands.x.place ≡ inside at.stands.text stage
   place_of o at stage e = at.stands.place ∙ ap (inside at.stands.text) e

@@ -1,6 +1,6 @@
 -- A statement that changes definitions takes the catalog's X: cells and seats stand together then, before anything is
 -- changed or answered.
-use Rattle.std.proofs.Common.{◌≡◌, ◌≢◌, ℕ, ◌≤◌, Bool, true, false, List, [], ◌∷◌, set, Option, Some, refl, sym, ap, ◌∙◌, subst, inl, inr, ⊎_elim, append-nil, ◌++◌, arith}
+use Rattle.std.proofs.Common.{◌≡◌, ◌≢◌, ℕ, ◌≤◌, true, false, List, [], ◌∷◌, set, Some, refl, sym, ap, ◌∙◌, subst, inl, inr, ⊎_elim, append-nil, ◌++◌, arith}
 use Rattle.std.proofs.lemmas.Bool.{cases_eq}
 use Rattle.std.specs.Prelude.{not}
 use mathlib.Core.Option.{some}
@@ -15,7 +15,6 @@ use Rattle.spec_model.specs.Locks.{catalog_request, whole, requests_conflict}
 use Rattle.spec_model.specs.Agreement.{columns_at}
 use Rattle.spec_model.specs.Reach.{lets_change}
 use Rattle.spec_model.specs.Runs.{MadeBefore}
-use Rattle.spec_model.specs.ScriptRequests.{text_requests}
 use Rattle.spec_model.specs.Undo.{versions_undone}
 use Rattle.law_frame.proofs.Alls.{all_filter}
 use Rattle.law_frame.proofs.AtTable.{before_at}
@@ -30,7 +29,6 @@ use Rattle.spec_protocol.specs.OpenOnes.{HasOpen, text_at, lines_at, script_so_f
 use Rattle.spec_protocol.specs.OpenScripts.{counted}
 use Rattle.spec_protocol.specs.TableVisits.{with_holds}
 use Rattle.spec_protocol.specs.Moves.{visiting, at_place, sits}
-use Rattle.spec_protocol.specs.RequestsIn.{of_catalog}
 use Rattle.law_protocol_steps.proofs.Taken.{taken, AreFree}
 use Rattle.spec_protocol.specs.TablesAreSerial.{HasAdded}
 use Rattle.spec_protocol.specs.LocksCover.{IsDropping, LookedFirst}
@@ -88,9 +86,6 @@ module _ (v : Server) (cells : List Cell) (seats : List SeatState) {history : Hi
 
   same : IsSame x o then_session then_open
   same = record { id = refl; explicit = refl; script = refl; seq = refl; trees = refl; open_savepoints = refl; end = refl; lines = refl; text = refl; counts = λ tx id vs. refl; visited = λ i h. put_keeps catalog_at i o.visited h; released = refl }
-
-  requests_here : of_catalog (text_requests (defs_of T) o.explicit (v.reads text)).catalog ≡ whole mode.X ∷ []
-  requests_here = ap (λ (q : Option Stmt). of_catalog (text_requests (defs_of T) o.explicit q).catalog) K.is ∙ ap (λ (b : Bool). of_catalog (catalog_request b stmt)) K.alone ∙ ap of_catalog K.wanted
 
   -- nobody else has any lock there
   none_else : (h : Hold) → In h (holds_at cells catalog_at) → h.tx ≡ o.id
@@ -171,11 +166,3 @@ module _ (v : Server) (cells : List Cell) (seats : List SeatState) {history : Hi
     trees_are_of_events = trees v cells seats S j (sits s then_session) x o then_session then_open catalog_at (Catalog old) (Catalog then_catalog) (whole mode.X ∷ []) text takes;
     transcripts_agree = unmoved v cells seats S j s K.there x K.role o K.open_one then_open (record { id = refl; explicit = refl; script = refl; end = refl });
   }
-
-  pub same_ledger : exclusive_there.ledger ≡ S.ledger
-  unfolding exclusive_there
-  same_ledger = refl
-
-  pub same_catalog : exclusive_there.catalog ≡ then_catalog
-  unfolding exclusive_there
-  same_catalog = refl

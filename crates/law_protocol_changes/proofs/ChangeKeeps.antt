@@ -318,11 +318,6 @@ module _ (v : Server) (cells : List Cell) (seats : List SeatState) {history : Hi
   text_here : text_at x.place ≡ Some text
   text_here = ap text_at K.place
 
-  script_in : (b : Bool) (u : Text) (ls : List Line) (line : Line) → In u (map (λ (l : Line). l.0) ls) → In u (map (λ (l : Line). l.0) (with_line b line ls))
-  script_in true u [] line h = absurd h
-  script_in true u (l ∷ ls) line h = ⊎_elim (λ (e : l.0 ≡ u). inl e) (λ (k : In u (map (λ (q : Line). q.0) ls)). inr (script_in true u ls line k)) h
-  script_in false u ls line h = h
-
   -- what was a statement of it still is one
   belongs_then : (n : ℕ) (h : Hold) → Belongs seats n h → Belongs seats' n h
   belongs_then n h b = ⊎_elim

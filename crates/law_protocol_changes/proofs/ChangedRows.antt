@@ -183,24 +183,6 @@ module _ (tx id : ℕ) where
   unfolding mine
   no_events vs h = ap (sorted (λ a b. nat_cmp a.seq b.seq)) (touched_alone vs ∙ ap of_tx (none_touched vs h))
 
-  -- two tables whose versions of each key are the same, or have no event of the transaction, have the same events of it
-  pub events_agree : (columns : List ColumnDef) (V W : List Version) → Rising V → Rising W
-      → ((key : Key) → (of_key columns key V ≡ of_key columns key W) ⊎ (AllByRecursion (MadeBefore tx 0) (of_key columns key V) × AllByRecursion (MadeBefore tx 0) (of_key columns key W)))
-      → events_in tx id V ≡ events_in tx id W
-  unfolding mine
-  events_agree columns V W r q h =
-      ap (sorted (λ a b. nat_cmp a.seq b.seq)) (touched_alone V ∙ ap of_tx same ∙ sym (touched_alone W))
-    where
-      each : (key : Key) → of_key columns key (filter touched V) ≡ of_key columns key (filter touched W)
-      each key = filters_turned (λ v. same_key (version_key columns v) key) touched V ∙ ⊎_elim
-          (λ (e : of_key columns key V ≡ of_key columns key W). ap (filter touched) e)
-          (λ (n : AllByRecursion (MadeBefore tx 0) (of_key columns key V) × AllByRecursion (MadeBefore tx 0) (of_key columns key W)). none_touched (of_key columns key V) n.0 ∙ sym (none_touched (of_key columns key W) n.1))
-          (h key)
-          ∙ sym (filters_turned (λ v. same_key (version_key columns v) key) touched W)
-
-      same : filter touched V ≡ filter touched W
-      same = by_keys columns (filter touched V) (filter touched W) (rising_filter touched V r) (rising_filter touched W q) each
-
 -- and so they have the same versions that it started or ended
 pub touched_agree : (tx : ℕ) (columns : List ColumnDef) (V W : List Version) → Rising V → Rising W
     → ((key : Key) → (of_key columns key V ≡ of_key columns key W) ⊎ (AllByRecursion (MadeBefore tx 0) (of_key columns key V) × AllByRecursion (MadeBefore tx 0) (of_key columns key W)))

@@ -89,11 +89,6 @@ use Rattle.law_protocol_steps.proofs.GoesOn.{Owned, each_so, ActsBy, then_more}
 use Rattle.spec_history.specs.Acts as act
 use Rattle.sql_types.specs.declared.entry.TxEntry.{TxEntry}
 
-in_texts : (a : Text) (xs ys : List Line) (zs : List Text) → In a (map (λ l. l.0) xs ++ zs) → In a (map (λ l. l.0) (xs ++ ys) ++ zs)
-in_texts a [] [] zs i = i
-in_texts a [] (y ∷ ys) zs i = inr (in_texts a [] ys zs i)
-in_texts a (x ∷ xs) ys zs i = ⊎_elim (λ e. inl e) (λ e. inr (in_texts a xs ys zs e)) i
-
 module _ (v : Server) (cells : List Cell) (seats : List SeatState) {history : History} (st : Stands v history cells seats) (j : ℕ) (s : SeatState) (there : get_elem? seats j ≡ some s)
     (p : InStatement v s) (o : OpenTransaction) (open_one : p.x.open_one ≡ Some o) (open_end : o.end ≡ unfixed) (r : Reply) (commits : Commits o.explicit p.stmt p.stage r) (acts : is_read_only o ≡ false) (time : ℕ)
     (not_creating : creates p.stmt ≡ false) where

@@ -47,7 +47,7 @@ use Rattle.law_protocol_steps.proofs.FreshIds.{events_of_touched, IsNotOf, each_
 use Rattle.law_protocol_steps.proofs.Heard.{heard_still}
 use Rattle.law_protocol_steps.proofs.Ids.{InTransaction, in_transaction}
 use Rattle.law_protocol_steps.proofs.OthersScripts.{sound_for}
-use Rattle.law_protocol_steps.proofs.SaidMore.{trees_over, X, its_versions, its_counter, its_savepoints, keeps_said, state_is}
+use Rattle.law_protocol_steps.proofs.SaidMore.{trees_over, X, its_versions, its_savepoints, keeps_said, state_is}
 use Rattle.law_protocol_changes.proofs.SaysHistory.{says_act, says_owner}
 use Rattle.law_protocol_steps.proofs.ScriptMore.{step_is, back_one}
 use Rattle.law_protocol_changes.proofs.StepsSaid.{none_requested, back_requests, same_back}
@@ -105,9 +105,6 @@ module _ (v : Server) (cells : List Cell) (seats : List SeatState) {history : Hi
     abbrev state : State
     state = X v cells seats st j s there x role o one open_end explicit text begun at refl (λ id ws. refl)
 
-    counter : o.seq ≡ state.seq
-    counter = its_counter v cells seats st j s there x role o one open_end explicit text begun at refl (λ id ws. refl)
-
     versions : (id : ℕ) → 1 ≤ id → touched o.id (c.versions id) ≡ touched o.id (versions_of state.tables id)
     versions = its_versions v cells seats st j s there x role o one open_end explicit text begun at refl (λ id ws. refl)
 
@@ -119,9 +116,6 @@ module _ (v : Server) (cells : List Cell) (seats : List SeatState) {history : Hi
     undo = (subst (AllByRecursion (λ b. undone o.id b.seq state.tables ≡ b.tables)) to.is (all_back (λ b. undone o.id b.seq state.tables ≡ b.tables) name state.saved
         (subst (λ b. AllByRecursion (λ g. undone o.id g.seq (script v.reads b k.tables o.id (map (λ l. l.0) o.script)).state.tables ≡ g.tables) (script v.reads b k.tables o.id (map (λ l. l.0) o.script)).state.saved) (sym explicit)
         (copies_undone v.reads k.tables o.id (map (λ l. l.0) o.script) (sound_for v cells seats st j x o has open_end))))).0
-
-    then_state : State
-    then_state = record { tables = to.c.tables; seq = to.c.seq; saved = to.c ∷ to.cs }
 
     abbrev p : OpenTransaction
     p = with_undo_state f.seq f.trees (f ∷ fs) o
@@ -198,9 +192,6 @@ module _ (v : Server) (cells : List Cell) (seats : List SeatState) {history : Hi
     undone_key id key = undone_of_key (columns_at (defs_of k.tables) id) key o.id f.seq (versions_of state.tables id)
         ∙ ap (λ (n : ℕ). rows_of id key (versions_undone o.id n (versions_of state.tables id))) to.open_savepoint.counter
         ∙ ap (rows_of id key) (sym (undone_at o.id to.c.seq state.tables id) ∙ ap (λ (T : Tables). versions_of T id) undo)
-
-    all_before : (id : ℕ) → 1 ≤ id → AllByRecursion (MadeBefore o.id o.seq) (c.versions id)
-    all_before id l = subst (λ (z : SessionStatus). AllByRecursion (MadeBefore o.id o.seq) (counted o.id id z (c.versions id))) at (st.rows_agree.before j x o has open_end id l)
 
     -- who isn't in the cell made nothing there
     untouched_there : (id : ℕ) → 1 ≤ id → list_any (λ i. i == cell_of id) (tables_visited o) ≡ false → Each (IsNotOf o.id) (c.versions id)

@@ -174,9 +174,6 @@ module _ (v : Server) (cells : List Cell) (seats : List SeatState) {history : Hi
       abbrev p : OpenTransaction
       p = with_script ls o
 
-      abbrev lines : List Line
-      lines = ls ++ lines_at y.place
-
       abbrev texts : List Line → List Text
       texts ms = map (λ l. l.0) ms
 

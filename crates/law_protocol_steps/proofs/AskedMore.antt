@@ -3,7 +3,7 @@ use Rattle.std.proofs.Common.{◌≡◌, ◌≢◌, ℕ, Bool, List, [], ◌∷�
 use Rattle.std.proofs.lemmas.Bool.{cases_eq}
 use Rattle.spec_history.specs.Lists.{Text, Each, In}
 use Rattle.spec_history.specs.Meaning.{Meaning}
-use Rattle.spec_history.specs.Acts.{SessionAct, starts, takes, assigns_id, looks, says, fails, meets, commits, ends, releases_locks, issues, keeps, lacks, answers, stops, by, closes}
+use Rattle.spec_history.specs.Acts.{SessionAct, starts, takes, assigns_id, looks, says, fails, meets, commits, ends, releases_locks, issues, keeps, lacks, answers, stops, by}
 use Rattle.spec_history.specs.Sessions.{SessionTransaction, SessionState, transaction_by}
 use Rattle.spec_history.specs.Worlds.{World, step, run}
 use Rattle.spec_history.specs.Guards.{IsEnabledFor, Good}
@@ -53,6 +53,3 @@ module _ (q : Meaning) (db : Text) where
   pub asked_by_all : (w : World) (n : ℕ) (anonymous_acts : List SessionAct) → Each NotFree anonymous_acts → Good q db w (by_each n anonymous_acts) → (id : ℕ) (explicit : Bool) (a : Text × Bool) → WasAsked w.at id explicit a → WasAsked (run w (by_each n anonymous_acts)).at id explicit a
   asked_by_all w n [] f ok id explicit a h = h
   asked_by_all w n (act ∷ anonymous_acts) f ok id explicit a h = asked_by_all (step w (by n act)) n anonymous_acts f.1 ok.1 id explicit a (asked_by_act w n act f.0 ok.0 id explicit a h)
-
-  pub asked_by_close : (w : World) (k : ℕ) (id : ℕ) (explicit : Bool) (a : Text × Bool) → WasAsked w.at id explicit a → WasAsked (step w (closes k)).at id explicit a
-  asked_by_close w k id explicit a h = h

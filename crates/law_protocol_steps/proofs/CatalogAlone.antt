@@ -1,5 +1,5 @@
 -- Who has the catalog's X is alone there.
-use Rattle.std.proofs.Common.{◌≡◌, ◌≢◌, ℕ, true, false, List, refl, sym, ap, ◌∙◌, ⊎_elim}
+use Rattle.std.proofs.Common.{◌≡◌, ◌≢◌, ℕ, true, false, List, sym, ap, ◌∙◌, ⊎_elim}
 use Rattle.std.proofs.lemmas.Bool.{cases_eq}
 use Rattle.sql_types.specs.declared.lock.Mode.{Mode}
 use Rattle.sql_types.specs.declared.lock.Mode.TheVariants as mode
@@ -16,13 +16,6 @@ use Rattle.law_protocol_steps.proofs.OfCells.{HasLock}
 use Rattle.sql_types.specs.declared.lock.Item.TheVariants as item
 use Rattle.sql_types.specs.declared.lock.Item.{Item}
 use Rattle.std.specs.Prelude.{◌&&◌}
-
-against_all : (m : Mode) → requests_conflict (whole mode.X) (whole m) ≡ true
-unfolding same_item conflict
-against_all mode.IS = refl
-against_all mode.IX = refl
-against_all mode.S = refl
-against_all mode.X = refl
 
 against_whole : (x : Item) (m : Mode) → x ≡ item.Whole → (same_item item.Whole x && conflict mode.X m) ≡ true
 unfolding same_item conflict

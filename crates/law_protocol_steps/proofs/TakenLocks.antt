@@ -1,77 +1,13 @@
--- Locks that are taken, and locks that aren't in the way.
-use Rattle.std.proofs.Common.{◌≡◌, ◌≢◌, ℕ, not, Bool, true, false, cond, List, [], ◌∷◌, map, filter, Option, Some, None, refl, sym, ap, ◌∙◌, inl, inr, eqb-true}
+-- Locks that aren't in the way.
+use Rattle.std.proofs.Common.{◌≡◌, ◌≢◌, ℕ, not, Bool, true, false, cond, List, [], ◌∷◌, map, filter, Option, Some, None, refl, sym, ap, ◌∙◌}
 use Rattle.std.proofs.lemmas.Bool.{ne_eqb}
-use Rattle.std.specs.Prelude.{◌==◌, ◌&&◌, ◌||◌}
+use Rattle.std.specs.Prelude.{◌&&◌}
 use Rattle.std.specs.List.{fold}
-use Rattle.sql_types.specs.declared.lock.Mode.{Mode}
-use Rattle.sql_types.specs.declared.lock.Mode.TheVariants.{IS, IX, S, X}
-use Rattle.sql_types.specs.declared.lock.Item.{Item}
-use Rattle.sql_types.specs.declared.lock.Item.TheVariants as item
 use Rattle.sql_types.specs.declared.lock.Hold.{Hold}
 use Rattle.sql_types.specs.declared.lock.LockRequest.{LockRequest}
-use Rattle.spec_model.specs.Locks.{whole, same_item, requests_conflict}
-use Rattle.spec_model.specs.Holds.{same_mode, answers, holds_request, with_request, holds_after}
+use Rattle.spec_model.specs.Locks.{requests_conflict}
 use Rattle.spec_model.specs.InTheWay.{Holder, holder_of, bars, lesser, least_with, least, barrier, conflict_or, first_conflict}
 use Rattle.spec_history.specs.Lists.{Each}
-use Rattle.spec_protocol.specs.RequestsIn.{Holds}
-
--- ---- a lock that is held
-
-same_mode_is : (a b : Mode) → same_mode a b ≡ true → a ≡ b
-same_mode_is IS IS e = refl
-same_mode_is IX IX e = refl
-same_mode_is S S e = refl
-same_mode_is X X e = refl
-same_mode_is IS IX e = cc
-same_mode_is IS S e = cc
-same_mode_is IS X e = cc
-same_mode_is IX IS e = cc
-same_mode_is IX S e = cc
-same_mode_is IX X e = cc
-same_mode_is S IS e = cc
-same_mode_is S IX e = cc
-same_mode_is S X e = cc
-same_mode_is X IS e = cc
-same_mode_is X IX e = cc
-same_mode_is X S e = cc
-
-both : (a b : Bool) → (a && b) ≡ true → (a ≡ true) × (b ≡ true)
-both true b e = (refl, e)
-both false b e = cc
-
-whole_there : (i : Item) → same_item item.Whole i ≡ true → same_item i item.Whole ≡ true
-unfolding same_item
-whole_there item.Whole e = refl
-whole_there (item.Key key) e = cc
-
-held_by : (hs : List Hold) (id : ℕ) (m : Mode) (h : Hold) (b : Bool) → answers id (whole m) h ≡ b → (b || holds_request hs id (whole m)) ≡ true
-    → (holds_request hs id (whole m) ≡ true → Holds hs id (whole m)) → Holds (h ∷ hs) id (whole m)
-held_by hs id m h true f g rest =
-    let a = both (h.tx == id) _ f in
-    let c = both (same_item item.Whole h.request.item) (same_mode m h.request.mode) a.1 in
-    record {
-      hold = h;
-      has = inl refl;
-      mine = eqb-true h.tx id a.0;
-      item = whole_there h.request.item c.0;
-      mode = sym (same_mode_is m h.request.mode c.1);
-    }
-held_by hs id m h false f g rest =
-    let z = rest g in
-    record { hold = z.hold; has = inr z.has; mine = z.mine; item = z.item; mode = z.mode }
-
--- a lock on the whole that the transaction holds is among the locks
-pub held_is : (hs : List Hold) (id : ℕ) (m : Mode) → holds_request hs id (whole m) ≡ true → Holds hs id (whole m)
-unfolding holds_request
-held_is [] id m e = cc
-held_is (h ∷ hs) id m e = held_by hs id m h (answers id (whole m) h) refl e (held_is hs id m)
-
--- one lock is taken
-pub taken_one : (hs : List Hold) (id : ℕ) (w : LockRequest) → holds_after hs id (w ∷ []) ≡ with_request hs id w
-unfolding holds_after
-taken_one hs id w = refl
-
--- ---- no lock is in the way
 
 some_least : (hs : List Holder) (a : Holder) → fold least_with (Some a) hs ≡ None → ⊥
 some_least [] a e = absurd cc

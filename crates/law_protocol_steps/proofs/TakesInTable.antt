@@ -144,9 +144,6 @@ module _ (v : Server) (cells : List Cell) (seats : List SeatState) {history : Hi
       exclusive X e = tt
       exclusive m e = cc
 
-  user : (id : ℕ) → 1 ≤ id → cell_of id ≡ i → 3 ≤ id
-  user id l e = users id at.n l (e ∙ at.is)
-
   held_catalog : HoldsInCatalog v cells (tables_now S) x.place o
   held_catalog = looked_now v cells (tables_now S) o x.place (S.locks_cover.looked j x o has_open K.unfixed) (subst HasLooked (sym K.place) tt)
 

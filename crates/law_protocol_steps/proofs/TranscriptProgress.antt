@@ -18,7 +18,7 @@ use Rattle.spec_history.specs.Facts.{Fact, began, said, failed, placed, passed, 
 use Rattle.spec_history.specs.InPlace.{InPlace, ControlledBy, ComesAt, ThirdImage, EndsInside, ReadOnlyEnd, needs_none, is_begin as in_place_begin}
 use Rattle.spec_history.specs.Transactions.{End, unfixed, committed, ended}
 use Rattle.spec_protocol.specs.Answering.{refused_inside}
-use Rattle.spec_protocol.specs.Seats.{OpenTransaction, StatementProgress, begun, found, made, answering, SessionStatus, inside, leaving, Session}
+use Rattle.spec_protocol.specs.Seats.{OpenTransaction, StatementProgress, begun, found, answering, SessionStatus, inside, leaving, Session}
 use Rattle.spec_protocol.specs.Moves.{new_transaction, ending, saying}
 use Rattle.spec_protocol.specs.LedgerVisits.{stage_with_id}
 use Rattle.spec_protocol.specs.TranscriptsSoFar.{end_shown, line_of, is_begin, image_in, image_at, NotBack, EndsOwn, EndsOpened, shown_inside, shown_alone, shown_with, shown_at, open_before, FitsOutside, FitsOwn, FitsOpened, IsSaid, ProgressOpened, FitsWith, Fits}
@@ -37,17 +37,6 @@ own_end roll_back e f a b = absurd a
 own_end to_savepoint e f a b = absurd a
 own_end issue e f a b = absurd a
 own_end keep e f a b = absurd a
-
-pub not_back : (k : Kind) (e : End) → EndsOwn k e → NotBack e
-not_back create e a = a
-not_back rows e a = a
-not_back unread e a = absurd a
-not_back begin e a = absurd a
-not_back commit e a = absurd a
-not_back roll_back e a = absurd a
-not_back to_savepoint e a = absurd a
-not_back issue e a = absurd a
-not_back keep e a = absurd a
 
 -- a table statement is one of its own
 pub runs_own : (st : Stmt) → runs false st ≡ true → EndsOwn (kind_of (Some st)) unfixed
@@ -89,9 +78,6 @@ module _ (q : Meaning) where
   pub if_fits : (n : ℕ) (text : Text) (stage : StatementProgress) (o : OpenTransaction) (b : Bool) → o.explicit ≡ b → FitsWith q b n text stage o.id o.end → Fits q n (inside text stage) (Some o)
   if_fits n text stage o b e f = subst (λ (z : Bool). FitsWith q z n text stage o.id o.end) (sym e) f
 
-  pub shown_if : (text : Text) (stage : StatementProgress) (o : OpenTransaction) (b : Bool) → o.explicit ≡ b → shown_at q (inside text stage) (Some o) ≡ shown_with q b o.id text stage ++ end_shown o.end
-  shown_if text stage o b e = ap (λ (z : Bool). shown_with q z o.id text stage ++ end_shown o.end) e
-
   -- ---- an id is drawn
 
   begin_fits : (n : ℕ) (text : Text) (id : ℕ) → kind_of (q.reads text) ≡ begin → InPlace q None n (statement text (reply.Begun id) None)
@@ -105,13 +91,6 @@ module _ (q : Meaning) where
   at_draw n text id e = record { shown = refl; before = refl; images = refl; fits = (e, tt) }
 
   -- ---- nothing is to be shown yet, and nothing then
-
-  -- a stage at which no reply is certain
-  abbrev pub IsOpenProgress : StatementProgress → Type 0
-  IsOpenProgress begun = Unit {0}
-  IsOpenProgress (found named fresh) = Unit {0}
-  IsOpenProgress (made def indexed) = Unit {0}
-  IsOpenProgress _ = ⊥
 
   pub at_found : (n : ℕ) (text : Text) (o u : OpenTransaction) (named : _) (fresh : Bool) → u.id ≡ o.id → u.explicit ≡ o.explicit → u.end ≡ o.end → kind_of (q.reads text) ≡ rows → Fits q n (inside text begun) (Some o) → GoesAt n (inside text begun) (Some o) (inside text (found named fresh)) (Some u) []
   at_found n text o u named fresh id explicit end kind f = record {

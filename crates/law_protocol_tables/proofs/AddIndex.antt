@@ -6,7 +6,6 @@ use mathlib.Core.Option.{some}
 use lib.ListN.{get_elem?}
 use Rattle.sql_value.specs.declared.column.ColumnDef.{ColumnDef}
 use Rattle.sql_types.specs.declared.lock.Mode.TheVariants.{X}
-use Rattle.sql_types.specs.declared.lock.LockRequest.{LockRequest}
 use Rattle.sql_types.specs.declared.statement.Stmt.{Stmt}
 use Rattle.sql_types.specs.declared.table.TableDef.{TableDef}
 use Rattle.sql_types.specs.declared.table.IndexDef.{IndexDef}
@@ -125,9 +124,6 @@ module _ (v : Server) (cells : List Cell) (seats : List SeatState) {history : Hi
     visited = λ n h. put_keeps i n o.visited h;
     released = refl;
   }
-
-  none : (w : LockRequest) → In w [] → ⊥
-  none w h = h
 
   none_taken : c.holds ≡ taken o.id [] c.holds
   unfolding holds_after

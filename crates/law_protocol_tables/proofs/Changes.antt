@@ -1,8 +1,7 @@
 -- INSERT, UPDATE and DELETE in a table's cell: locks are taken, rows are changed, trees grow.
 use Rattle.law_protocol_steps.proofs.ActedFor.{StandsBy}
-use Rattle.std.proofs.Common.{◌≡◌, ◌≢◌, ◌⊎◌, ℕ, ◌+◌, Bool, false, List, [], ◌∷◌, map, length, set, Option, Some, None, Ok, refl, sym, ap, ap₂, ◌∙◌, subst, inl, inr, ⊎_elim, arith, ◌++◌, true}
-use Rattle.std.proofs.lemmas.Bool.{ne_eqb, eq-eqb}
-use Rattle.std.specs.Prelude.{not, if◌then◌else◌}
+use Rattle.std.proofs.Common.{◌≡◌, ◌≢◌, ◌⊎◌, ℕ, ◌+◌, false, List, [], ◌∷◌, map, length, set, Option, Some, None, Ok, refl, sym, ap, ap₂, ◌∙◌, subst, inl, inr, ⊎_elim, true}
+use Rattle.std.specs.Prelude.{not}
 use mathlib.Core.Option.{some}
 use lib.ListN.{get_elem?}
 use Rattle.sql_types.specs.declared.journal.JournalItem.{JournalItem}
@@ -22,20 +21,18 @@ use Rattle.spec_model.specs.Lists.{all_some}
 use Rattle.spec_model.specs.Where.{key_fixed}
 use Rattle.spec_model.specs.Journals.{serial}
 use Rattle.spec_model.specs.Changes.{written_names}
-use Rattle.spec_model.specs.Locks.{whole, by_keys, by_key_or_whole, catalog_request, cell_requests, key_inserted, row_requests, row_cell_requests, requests_conflict}
+use Rattle.spec_model.specs.Locks.{whole, by_keys, by_key_or_whole, key_inserted, row_requests, requests_conflict}
 use Rattle.spec_model.specs.Agreement.{columns_at}
-use Rattle.spec_model.specs.ScriptRequests.{text_requests}
 use Rattle.law_frame.proofs.AgreeAfter.{has_table}
 use Rattle.law_frame.proofs.NamedPart.{found_is_listed}
 use Rattle.law_journal.specs.Fits.{FitsSoFar}
 use Rattle.spec_history.specs.Lists.{Text, Each, In}
 use Rattle.spec_protocol.specs.Server.{Server}
 use Rattle.sql_types.specs.declared.lock.Hold.{Hold}
-use Rattle.spec_protocol.specs.Cells.{Index, TableCell, Cell, Rows, catalog_at, cell_of}
+use Rattle.spec_protocol.specs.Cells.{Index, TableCell, Cell, Rows, cell_of}
 use Rattle.spec_protocol.specs.Seats.{OpenTransaction, found, SessionStatus, inside, Session, SeatState}
 use Rattle.spec_protocol.specs.OpenOnes.{HasOpen}
 use Rattle.spec_protocol.specs.Moves.{visiting, noting, sits}
-use Rattle.spec_protocol.specs.RequestsIn.{of_catalog, of_cell, requests_at, requests_in}
 use Rattle.law_protocol_steps.proofs.Taken.{AreFree}
 use Rattle.spec_protocol.specs.TableVisits.{reordered, ChangesRows}
 use Rattle.spec_protocol.specs.LocksCover.{name_of, IsNamed, HasIntent}
@@ -129,13 +126,6 @@ module _ (v : Server) (cells : List Cell) (seats : List SeatState) {history : Hi
 
   here : cell_of L.named.0.id ≡ i
   here = ap cell_of L.at.here ∙ take.cell_at i c at
-
-  requests_are : requests_in v D o.explicit i text ≡ row_requests L.named.0 L.row
-  unfolding cell_requests
-  requests_are = ap (λ (q : Option Stmt). requests_at i (text_requests D o.explicit q)) reads
-      ∙ ap (λ (b : Bool). (if b then of_catalog (catalog_request o.explicit (stmt.Change L.row)) else []) ++ of_cell i (row_cell_requests L.row (row_statement_check D L.row))) (ne_eqb i catalog_at (λ e. let q = at.is in omega arith))
-      ∙ ap (λ q. of_cell i (row_cell_requests L.row q)) checked
-      ∙ ap (λ (b : Bool). if b then row_requests L.named.0 L.row else []) (eq-eqb (cell_of L.named.0.id) i here)
 
   -- ---- the locks
 

@@ -51,7 +51,6 @@ use Rattle.spec_protocol.specs.CatalogVisits.{ReleasesCatalogLock}
 use Rattle.spec_protocol.specs.OpenOnes.{lines_at}
 use Rattle.spec_model.specs.Reach.{has_key, is_exclusive}
 use Rattle.spec_model.specs.Script.{ScriptEnd}
-use Rattle.spec_history.specs.Transactions.{listed}
 use Rattle.law_protocol_steps.proofs.SameOne.{IsSame, same_end, script_stays, trees_stay}
 use Rattle.law_protocol_steps.proofs.CellsAfter.{versions_kept}
 use Rattle.sql_types.specs.declared.lock.Mode.TheVariants as mode
@@ -65,10 +64,6 @@ use Rattle.law_protocol_steps.proofs.SeatIds.{one_seat}
 use Rattle.law_protocol_steps.proofs.Taken.{released_is}
 use Rattle.law_protocol_steps.proofs.VisitActs.{stage_act}
 use Rattle.spec_model.specs.ScriptRequests.{text_requests}
-
-listed_is : (u : Text) (q : Option Text) → In u (listed q) → q ≡ Some u
-listed_is u None h = absurd h
-listed_is u (Some w) h = ⊎_elim (λ (e : w ≡ u). ap (λ (r : Text). Some r) e) (λ (z : ⊥). absurd z) h
 
 shared_not : (key : Key) (w : LockRequest) → w.mode ≡ mode.S → lets_change key w ≡ false
 shared_not key w e = ap (λ m. is_exclusive m && has_key key w.item) e

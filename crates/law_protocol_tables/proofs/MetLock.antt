@@ -35,10 +35,6 @@ use Rattle.law_protocol_steps.proofs.JournalMore.{same_serial}
 -- ---- the tables after so many transactions are those of the model
 
 module _ (v : Server) where
-  one_item : (T : Tables) (i : JournalItem) → history.after_item v.meaning T i ≡ after_item v.reads T i
-  one_item T (Tx id session time explicit lines) = v.real.after explicit T id (map (λ l. l.0) lines)
-  one_item T (Close k) = refl
-
   up_items : (T : Tables) (n : ℕ) (items : List JournalItem) → history.after_tx v.meaning T n items ≡ serial_from v.reads T (upto items n)
   unfolding serial_from
   up_items T zero [] = refl

@@ -11,7 +11,7 @@ use Rattle.law_protocol_steps.proofs.Taken.{AreFree, taken_comes}
 use Rattle.std.proofs.Common.{Bool, Err, List, Ok, Option, Some, [], ap, append-nil, arith, false, inl, map, refl, set, subst, suc, sym, true, zero, ℕ, ⊎_elim, ◌++◌, ◌∙◌, ◌∷◌, ◌≡◌, ◌≢◌, ◌≤◌}
 use Rattle.spec_protocol.specs.Cells.{Catalog, CatalogCell, Cell, catalog_at, cell_of, holds_at, versions_at, versions_in}
 use Rattle.spec_model.specs.Refusals.{Checked}
-use Rattle.spec_model.specs.Catalog.{Defs, Tables, defs_of, find_part, versions_of}
+use Rattle.spec_model.specs.Catalog.{Tables, defs_of, find_part, versions_of}
 use Rattle.spec_history.specs.Lists.{Each, In, Text}
 use Rattle.spec_protocol.specs.OpenOnes.{HasOpen, script_so_far}
 use Rattle.sql_types.specs.declared.lock.Hold.{Hold}
@@ -65,9 +65,6 @@ module _ (v : Server) (cells : List Cell) (seats : List SeatState) {history : Hi
 
   abbrev text : Text
   text = L.at.stands.text
-
-  abbrev D : Defs
-  D = defs_of (tables_now stands_before)
 
   abbrev stage : StatementProgress
   stage = found (find_part c.defs L.q.table) (not (holds_any c.holds o.id))

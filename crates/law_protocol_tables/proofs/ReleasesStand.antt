@@ -19,10 +19,10 @@ use Rattle.spec_model.specs.Rows.{EventId, value_or_null}
 use Rattle.spec_model.specs.Keys.{Key, key_of, key_places, of_key}
 use Rattle.spec_model.specs.Catalog.{Tables, defs_of, versions_of}
 use Rattle.spec_model.specs.Journals.{Line, serial, upto}
-use Rattle.spec_model.specs.Locks.{whole, same_item, conflict, requests_conflict}
+use Rattle.spec_model.specs.Locks.{whole}
 use Rattle.spec_model.specs.Agreement.{columns_at, IdsFrom}
 use Rattle.spec_model.specs.ChangeSets.{change_set, defined}
-use Rattle.spec_model.specs.Runs.{Rising, IsBefore, EndsBefore, MadeBefore}
+use Rattle.spec_model.specs.Runs.{Rising, EndsBefore, MadeBefore}
 use Rattle.spec_model.specs.Undo.{is_undone, end_left, end_undone, versions_undone}
 use Rattle.spec_history.specs.Lists.{Text, Each, In}
 use Rattle.spec_history.specs.Refusals.{EndsAt}
@@ -116,10 +116,6 @@ added_is o (inside text (replied reply)) after f h = absurd h
 added_is o (inside text (refused reply)) after f h = absurd h
 added_is o between after f h = absurd h
 added_is o leaving after f h = absurd h
-
-x_against_x : requests_conflict (whole X) (whole X) ≡ true
-unfolding same_item conflict
-x_against_x = refl
 
 left_is : (b : Bool) (tx : ℕ) (vs : List Version) → (if b then vs else versions_undone tx 0 vs) ≡ left_by b tx vs
 left_is true tx vs = refl
@@ -332,9 +328,6 @@ module _ (v : Server) (cells : List Cell) (seats : List SeatState) {history : Hi
   lock_was : (n id : ℕ) → HasLock C' n id → HasLock cells n id
   lock_was n id l = record { hold = l.hold; has = was_held n l.hold l.has; mine = l.mine }
 
-  lock_is : (n id : ℕ) → id ≢ o.id → HasLock cells n id → HasLock C' n id
-  lock_is n id ne l = record { hold = l.hold; has = is_held n l.hold (λ e. ne (sym l.mine ∙ e)) l.has; mine = l.mine }
-
   catalog_lock : (id : ℕ) → HasLock cells catalog_at id → HasLock C' catalog_at id
   catalog_lock id l = record { hold = l.hold; has = subst (In l.hold) (sym catalog_holds) l.has; mine = l.mine }
 
@@ -387,9 +380,6 @@ module _ (v : Server) (cells : List Cell) (seats : List SeatState) {history : Hi
 
   -- what was said of a version that is left
   module _ (w : Version) (there : In w d.versions) where
-    not_his : (e : EventId) → IsBefore o.id 0 e → in_journal S.ledger.items e ≡ false → e.0 ≢ o.id
-    not_his e b q m = let l = b m in omega arith
-
     is_out : (e : EventId) → in_journal S.ledger.items e ≡ false → e.0 ≡ o.id → placed ≡ false
     is_out e q m = sym (is_placed v cells seats S j x o has_open R.fixed e.1) ∙ ap (λ (n : ℕ). in_journal S.ledger.items (n, e.1)) (sym m) ∙ q
 

@@ -1,53 +1,23 @@
--- How a transcript goes on at the visits that aren't proved yet: an image is kept, a lock is in the way.
-use Rattle.std.proofs.Common.{◌≡◌, ℕ, ◌+◌, ◌<◌, Bool, true, false, List, [], ◌∷◌, ◌++◌, length, Some, None, refl, sym, ap, ◌∙◌, subst, length-append, arith}
-use Rattle.std.proofs.lemmas.Bool.{ne_eqb}
+-- How a transcript goes on where a lock is in the way.
+use Rattle.std.proofs.Common.{◌≡◌, ℕ, Bool, true, false, List, [], ◌∷◌, ◌++◌, Some, None, refl, sym, ap, ◌∙◌}
 use Rattle.std.specs.Prelude.{if◌then◌else◌}
-use Rattle.sql_value.specs.declared.refusal.Refusal.TheVariants.{Locked, SyntaxError, NoTransaction, AlreadyInTransaction, LimitExceeded, ForbiddenInTransaction}
+use Rattle.sql_value.specs.declared.refusal.Refusal.TheVariants.{Locked}
 use Rattle.sql_types.specs.declared.reply.Reply.TheVariants as reply
 use Rattle.spec_history.specs.Lists.{Text}
 use Rattle.spec_history.specs.Meaning.{Meaning}
-use Rattle.spec_history.specs.Transcripts.{Kind, rows, keep, kind_of}
-use Rattle.spec_history.specs.Facts.{Fact, began, met, image, facts_outside}
-use Rattle.spec_history.specs.InPlace.{ComesAt}
+use Rattle.spec_history.specs.Transcripts.{Kind, rows, kind_of}
+use Rattle.spec_history.specs.Facts.{Fact, began, met}
 use Rattle.spec_history.specs.Transactions.{unfixed}
-use Rattle.spec_protocol.specs.TranscriptsSoFar.{end_shown, is_begin, image_in, image_at, shown_inside, shown_alone, shown_with, shown_at, open_before, Fits}
+use Rattle.spec_protocol.specs.TranscriptsSoFar.{end_shown, is_begin, image_in, shown_inside, shown_alone, shown_with, Fits}
 use Rattle.spec_protocol.specs.Doing.{stage_refused}
-use Rattle.spec_protocol.specs.Moves.{keeping, at_place}
-use Rattle.spec_protocol.specs.Seats.{OpenTransaction, StatementProgress, begun, answering, refused, inside, Session}
-use Rattle.law_protocol_steps.proofs.TranscriptActs.{GoesFrom}
+use Rattle.spec_protocol.specs.Seats.{OpenTransaction, StatementProgress, answering, refused, inside}
 use Rattle.law_protocol_steps.proofs.TranscriptProgress.{GoesAt, fits_if, if_fits, at_opened}
-use Rattle.law_protocol_steps.proofs.InPlaces.{NoControl, never, outside, within, controlled_inside, fits_own}
+use Rattle.law_protocol_steps.proofs.InPlaces.{NoControl, within, controlled_inside, fits_own}
 
 locked_plain : (holder : ℕ) → NoControl (reply.Refused (Locked holder))
 locked_plain holder = record { not_syntax_error = λ e. cc; not_no_transaction = λ e. cc; not_already_in = λ e. cc; not_forbidden_in = λ e. cc }
 
 module _ (q : Meaning) where
-  -- an image is kept, the first or the second
-  pub at_keep : (x : Session) (text : Text) (items : ℕ) (kept : _) → x.place ≡ inside text begun → x.open_one ≡ None → kind_of (q.reads text) ≡ keep → length x.images < 2
-      → GoesFrom q x (keeping kept (at_place None (inside text (answering (reply.Image items) None)) x)) (image items ∷ [])
-  at_keep x text items kept at free kind few n images fits = record {
-    shown = (λ i. shown_at q (at i) (free i) ++ image items ∷ []) ∙ sym (ap (λ (k : Kind). facts_outside q k text (reply.Image items) None) kind);
-    before = (λ i. open_before q (at i) (free i));
-    images = counts;
-    fits = record {
-      plain = refl;
-      in_place = outside q n text (reply.Image items) keep None kind refl (record {
-        none_open = never NoTransaction _ (λ f. cc);
-        begun_twice = never AlreadyInTransaction _ (λ f. cc);
-        not_inside = never ForbiddenInTransaction _ (λ f. cc);
-        unread_outside = never SyntaxError _ (λ f. cc);
-        third_image = subst (λ (b : Bool). ComesAt LimitExceeded b (reply.Image items)) (sym (ne_eqb n 2 (λ e. let l = so_far in omega (arith, e, l, few)))) (never LimitExceeded _ (λ f. cc));
-        begins = tt;
-      }) tt;
-    };
-  }
-    where
-      so_far : n + 0 ≡ length x.images
-      so_far = (λ i. n + image_at (sym at i)) ∙ images
-
-      counts : n + 1 ≡ length (x.images ++ kept ∷ [])
-      counts = omega (arith, so_far, length-append x.images (kept ∷ []))
-
   -- a lock is in the way of a statement of rows, in a transaction that BEGIN opened and in one of its own
   pub at_met : (n : ℕ) (text : Text) (holder : ℕ) (o : OpenTransaction) (stage : StatementProgress) (fresh : Bool) → o.explicit ≡ true → o.end ≡ unfixed → kind_of (q.reads text) ≡ rows → shown_inside q (kind_of (q.reads text)) text stage ≡ [] → is_begin stage ≡ false → image_in stage ≡ 0
       → GoesAt q n (inside text stage) (Some o) (inside text (stage_refused fresh (reply.Refused (Locked holder)))) (Some o) (met text holder ∷ [])

@@ -27,7 +27,7 @@ use Rattle.law_journal.specs.Serial.{place_in}
 use Rattle.spec_protocol.specs.Server.{Server}
 use Rattle.sql_types.specs.declared.lock.Hold.{Hold}
 use Rattle.spec_protocol.specs.Cells.{Creator, TableCell, Cell, Rows, holds_at, versions_at, catalog_at, cell_of, AreCells}
-use Rattle.spec_protocol.specs.OpenOnes.{HasOpen, text_at, script_so_far, script_end}
+use Rattle.spec_protocol.specs.OpenOnes.{HasOpen, script_so_far, script_end}
 use Rattle.spec_protocol.specs.OpenScripts.{counted}
 use Rattle.spec_protocol.specs.EventsIn.{events_in}
 use Rattle.spec_protocol.specs.Moves.{at_place, sits}
@@ -126,9 +126,6 @@ module _ (v : Server) (cells : List Cell) (seats : List SeatState) {history : Hi
 
   not_zero : cell_of 0 ≢ i
   not_zero e = let q = at.is in omega (arith, e, q)
-
-  not_catalog : catalog_at ≢ i
-  not_catalog e = let q = at.is in omega arith
 
   by_table : (P : ℕ → Type 0) → P c.id → ((id : ℕ) → 1 ≤ id → cell_of id ≢ i → P id) → (id : ℕ) → 1 ≤ id → P id
   by_table P this others id l = ⊎_elim (λ (e : cell_of id ≡ i). subst P (sym (only_id id l e)) this) (λ (ne : cell_of id ≢ i). others id l ne) (cases_eq (cell_of id) i)
@@ -382,9 +379,6 @@ module _ (v : Server) (cells : List Cell) (seats : List SeatState) {history : Hi
 
   lock_is : (n id : ℕ) → HasLock cells n id → HasLock C' n id
   lock_is n id l = record { hold = l.hold; has = subst (In l.hold) (sym (held_same n)) l.has; mine = l.mine }
-
-  same_text : text_at y.place ≡ text_at x.place
-  same_text = ap text_at (sym R.place)
 
   belongs_then : (n : ℕ) (h : Hold) → Belongs seats n h → Belongs seats' n h
   belongs_then n h b = ⊎_elim

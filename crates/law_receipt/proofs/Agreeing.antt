@@ -59,10 +59,6 @@ module _ (h : List ℕ → List ℕ) (sized : (bytes : List ℕ) → length (h b
     records_fit : (b j : ℕ) → AllByRecursion IsRecord (drop j (blocks_to i b))
     records_fit b j = all_left IsRecord j (blocks_to i b) (all_taken IsRecord (b + 1) i.blocks is.blocks)
 
-    -- what is said of a list's first item
-    first_size : (e : TxEntry) (p : List (List ℕ)) (r : BlockRecord) (more : List BlockRecord) → StandsIn h e p (r ∷ more) → e.ordinal < r.size
-    first_size e p r more x = x.1
-
     got : (xs : List TxEntry) (k : ℕ) → k < length xs → (e : TxEntry) × (slice_get xs k ≡ Some e)
     got [] k lt = absurd (omega (arith, lt))
     got (x ∷ xs) zero lt = (x, refl)

@@ -178,9 +178,6 @@ module _ (reads : Reading) (h : Hashing) (q : Meaning) (real : IsReal reads h q)
       pub others : (t : ℕ) → count ≤ t → w.at t ≡ fresh
       pub free : (t : ℕ) → NoTable q (w.at t).transaction
 
-    abbrev Tables_after : List JournalItem → Tables → Type 0
-    Tables_after before T = serial q q.first before ≡ T
-
     -- sound for each transaction that isn't among these
     abbrev SoundForOthers : List JournalItem → Tables → Type 0
     SoundForOthers before T = (id : ℕ) → AllByRecursion (IsOther id) before → Sound id 0 T

@@ -14,7 +14,7 @@ use Rattle.spec_protocol.specs.LocksDecideIn.{LocksDecideIn}
 use Rattle.spec_protocol.specs.OneByOne.{OneByOne}
 use Rattle.spec_protocol.specs.Seats.{SeatState}
 use Rattle.spec_protocol.specs.Server.{Server}
-use Rattle.spec_protocol.specs.StandTogether.{History, LocksAskedFor, Stands, StandsLater, StandTogether}
+use Rattle.spec_protocol.specs.StandTogether.{History, LocksAskedFor, Stands, StandsLater}
 use Rattle.spec_protocol.specs.Steps.{Steps}
 use Rattle.law_protocol.proofs.StepsKeep.{all_alone}
 use Rattle.law_going_on.specs.Start.{Start}
@@ -55,8 +55,3 @@ module _ {v : Server} {database : Text} {size : ℕ} (start : Start v database s
       same_database = done.0.database ∙ start.of_database;
       same_size = done.0.block_size ∙ start.of_size;
     }
-
--- so they stand together
-pub together : {v : Server} {database : Text} {size : ℕ} {start : Start v database size} {cells : List Cell} {seats : List SeatState} {steps : Steps v start.cells (first_seat start.cells ∷ []) cells seats}
-    → SinceStart start cells seats steps → StandTogether v cells (start.seat ∷ seats)
-together {start = start} s = record { history = start.history ++ s.events; stands = s.stands; locks_were_asked = s.asked; locks_are_requested = s.requested }

@@ -447,12 +447,6 @@ module _ (d : ℕ) (inner_sound : InnerSound d) where
   unfolding operand
   operand_or = level_sound d l.And (expr d) operand_and
 
-  pub operands_sound : (k : Level) → Sound d (below k) (operand (expr d) k)
-  operands_sound l.Or = operand_or
-  operands_sound l.And = operand_and
-  operands_sound l.Sum = operand_sum
-  operands_sound l.Product = operand_product
-
   pub or_sound : Sound d Expr' (or (expr d))
   unfolding level
   or_sound = level_sound d l.Or (expr d) operand_or

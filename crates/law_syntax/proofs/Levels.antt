@@ -1,5 +1,5 @@
 -- The levels whose operators group from the left.
-use Rattle.std.proofs.Common.{◌≡◌, ℕ, suc, ◌+◌, ◌-◌, ◌<◌, ◌≤◌, refl, ap, ◌∙◌, arith, Some, None}
+use Rattle.std.proofs.Common.{◌≡◌, ℕ, suc, ◌+◌, ◌-◌, ◌<◌, refl, ap, ◌∙◌, arith, Some, None}
 use Rattle.spec_syntax.specs.declared.level.Level.{Level}
 use Rattle.spec_syntax.specs.declared.level.Level.TheVariants as l
 use Rattle.sql_value.specs.declared.expr.Expr.{Expr}
@@ -21,9 +21,6 @@ level-grouped inner l.Product = refl
 
 pub one_more : {X : Type 0} {x : X} (f : ℕ → X) (n at : ℕ) → at < n → x ≡ f (n - at) → x ≡ f (suc (n - (at + 1)))
 one_more f n at below e = let turn : n - at ≡ suc (n - (at + 1)) = omega arith in e ∙ ap f turn
-
-pub no_more : {X : Type 0} {x : X} (f : ℕ → X) (n at : ℕ) → n ≤ at → x ≡ f (n - at) → x ≡ f 0
-no_more f n at done e = let none : n - at ≡ 0 = omega arith in e ∙ ap f none
 
 pub starts : (inner : Parser Expr) (k : Level) (i j : Input) (e : Expr) → operand inner k i ≡ Some (e, j)
     → level inner k i ≡ more (operator k) (operand inner k) (j.left + 1) e j

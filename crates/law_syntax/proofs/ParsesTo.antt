@@ -138,9 +138,6 @@ module _ {A : Type 0} (ok : Tag → Bool) (item : Parser A) (rule : Lexemes → 
   takes : (a : Lexemes) (x : A) → rule a x → 0 < length (syms a)
   takes a x is = not_empty item x a none (reads a x is [] 0 end_)
 
-  abbrev turn : ℕ → List A → Parser (List A)
-  turn m found = item >>= (λ x. eat t.Comma >>= (λ b. if b then list_from item m (found ++ x ∷ []) else pure (found ++ x ∷ [])))
-
   from_gives : (a : Lexemes) (all : List A) → Listed rule a all → (rest : List Sym) (n m : ℕ) (found : List A) → length (syms a) ≤ m → ok (tag_at rest) ≡ true → same_tag (tag_at rest) t.Comma ≡ false
       → ParsesTo (list_from item m found (at_ (syms a ++ rest) n)) (found ++ all) rest
   unfolding list_from

@@ -74,9 +74,6 @@ built {A} rule {x = x} {y = y} {j = j} tokens rest left cut is h =
     let pair : ◌≡◌ {A = A × Input} (x, from rest left) (y, j) = the_same h in
     record { tokens = tokens; rest = rest; left = left; cut = cut; met = ap (λ p. p.1) pair; is = subst (λ z. rule tokens z) (ap (λ p. p.0) pair) is }
 
-pub weaker : {A : Type 0} {rule other : Lexemes → A → Type 0} {a : Lexemes} {j : Input} {x : A} → ((b : Lexemes) → rule b x → other b x) → Part rule a j x → Part other a j x
-weaker f k = record { tokens = k.tokens; rest = k.rest; left = k.left; cut = k.cut; met = k.met; is = f k.tokens k.is }
-
 -- ---- words and signs
 
 -- the token of this tag comes first
