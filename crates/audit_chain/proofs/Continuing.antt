@@ -40,10 +40,6 @@ module _ (h : List ℕ → List ℕ) where
   of_first_hash database d [] some is = absurd (omega (arith, some))
   of_first_hash database d (r ∷ rs) some is = is
 
-  is_of_first : (database : List ℕ) (d : HeldDigest) (rs : List BlockRecord) → d.database ≡ database → first_or_no_hash h rs ≡ d.hash → IsOfFirst h database d rs
-  is_of_first database d [] own same = tt
-  is_of_first database d (r ∷ rs) own same = (own, same)
-
   -- ---- one history
 
   -- the records from a kept digest on join it to the newest one

@@ -26,9 +26,6 @@ over : (m n : ℕ) → is_gt (nat_cmp m n) ≡ true → (id : ℕ) → (m == id)
 over m n e id is = grind (arith, nat_tests, e, is)
 
 module _ (id none : ℕ) where
-  step : PlacedId → ℕ → ℕ
-  step p rest = cond (p.0 == id) p.1 rest
-
   exchange : (p q : PlacedId) (rest : ℕ) → is_gt (id_cmp p q) ≡ true → cond (q.0 == id) q.1 (cond (p.0 == id) p.1 rest) ≡ cond (p.0 == id) p.1 (cond (q.0 == id) q.1 rest)
   exchange p q rest gt = here (p.0 == id) refl
     where

@@ -15,7 +15,6 @@ use Rattle.std.specs.declared.cmp.Ordering.TheVariants.{Less, Equal, Greater}
 use Rattle.sql_value.specs.declared.value.Value.{Value}
 use Rattle.sql_value.specs.declared.value.Value.TheVariants.{Null, Num, Text, Bytes, Date}
 use Rattle.sql_types.specs.declared.entry.TxEntry.{TxEntry}
-use Rattle.sql_types.specs.declared.version.TypedValue.{TypedValue}
 use Rattle.sql_types.specs.declared.version.Version.{Version}
 use Rattle.spec_model.specs.Keys.{value_at}
 use Rattle.spec_model.specs.Lists.{sorted}
@@ -24,9 +23,9 @@ use Rattle.spec_model.specs.SystemTables.{columns_columns}
 use Rattle.sql_parts.proofs.Orders.{event_total}
 use Rattle.sql_parts.proofs.Sorting.{is_sorted}
 use Rattle.spec_verify.specs.Order.{is_before, later_started, last_started}
-use Rattle.spec_verify.specs.Versions.{column_as_of, has_columns, is_about_column, is_number, says_not_null, takes}
+use Rattle.spec_verify.specs.Versions.{column_as_of, has_columns, is_about_column, is_number, says_not_null}
 use Rattle.audit_columns.specs.declared.column_rows.ColumnRow.{ColumnRow}
-use Rattle.audit_columns.specs.ColumnRows.{sorted_rows, column_row, last_before, last_of, not_null_by, number_in, or_last, read_row, read_rows, row_cmp, same_column, takes_by}
+use Rattle.audit_columns.specs.ColumnRows.{sorted_rows, column_row, last_before, last_of, not_null_by, number_in, or_last, read_row, read_rows, row_cmp, same_column}
 use Rattle.audit_columns.specs.Positions.{rank_of}
 use Rattle.audit_columns.specs.Runs as runs
 use Rattle.audit_columns.proofs.Runs as law
@@ -329,10 +328,6 @@ module _ (entries : List TxEntry) (t n : ℕ) (at : EventId) (nn : Bool) where
       twice : (o : Option Version) → option_map (λ (r : ColumnRow). r.not_null) (option_map as_row o) ≡ option_map says_not_null o
       twice None = refl
       twice (Some r) = refl
-
-pub taken : (o : Option Version) (v : Option TypedValue) → takes_by (option_map says_not_null o) v ≡ takes o v
-taken None v = refl
-taken (Some r) v = refl
 
 -- ---- halving
 

@@ -71,14 +71,8 @@ module _ {A : Type 0} (by_key by_start : A → A → Ordering) (keys : IsTotalOr
   by_starts : (x y : A) → by_key x y ≡ Equal → cmp x y ≡ by_start x y
   by_starts x y e = ap (λ r. ordering_then r (by_start x y)) e
 
-  no_less : (x : A) → is_lt (by_start x x) ≡ false
-  no_less x = ap is_lt (tied_itself starts x)
-
   back_less : (x y : A) → by_start x y ≡ Greater → by_start y x ≡ Less
   back_less x y e = starts.antisymm y x ∙ ap ordering_reverse e
-
-  back_no_less : (x y : A) → by_start x y ≡ Greater → is_lt (by_start x y) ≡ false
-  back_no_less x y e = ap is_lt e
 
   -- ---- sorting keeps the latest of the earlier ones
 

@@ -116,9 +116,6 @@ at_place P (y ∷ ys) (suc k) x more e all = at_place P ys k x more e all.1
 module _ (h : List ℕ → List ℕ) (i j : Image) (is_i : IsImage i) (is_j : IsImage j) where
   -- with the last digest the others are judged
   module _ (first : HeldDigest) (rest : List HeldDigest) (yes_i : image_verdict h i (first ∷ rest) ≡ Yes) (yes_j : image_verdict h j (first ∷ rest) ≡ Yes) where
-    last : HeldDigest
-    last = last_from first rest
-
     meets_i : Meets h i (last_from first rest)
     meets_i = let at = (is_last first rest).one in accepted h i (first ∷ rest) is_i yes_i at.0 (last_from first rest) at.1 at.2
 
@@ -157,10 +154,6 @@ module _ (h : List ℕ → List ℕ) (i j : Image) (is_i : IsImage i) (is_j : Is
   finds_of (first ∷ rest) d r is yes_i yes_j found =
       let same : d ≡ last_from first rest = cc in
       finds_last first rest r yes_i yes_j (subst (λ (e : HeldDigest). IfOk r (Finds h (covered_of i e.block ≡ covered_of j e.block))) same found)
-
-  pub none_of : (digests : List HeldDigest) → last_of digests ≡ None → AgreeOnEach i j digests
-  none_of [] is = tt
-  none_of (first ∷ rest) is = cc
 
   -- ---- one history or a collision
 

@@ -172,6 +172,3 @@ all_left_at h i j d rest a b m n same rest_is a_is b_is =
     subst (λ (rs : List BlockRecord). BlocksLeft h W rs a b) (sym rest_is)
     (subst (λ (t : List TxEntry). BlocksLeft h W (blocks_to i d.block) t b) (sym a_is)
     (subst (λ (t : List TxEntry). BlocksLeft h W (blocks_to i d.block) i.entries t) (sym b_is) (all_left_first h i j d m n same)))
-
-pub few_left : (h : List ℕ → List ℕ) (W : Type 0) (r : BlockRecord) (rest more : List BlockRecord) (a b : List TxEntry) → rest ≡ r ∷ more → BlocksLeft h W rest a b → r.size ≤ length a
-few_left h W r rest more a b is left = (here h W r rest more a b is left).within_a

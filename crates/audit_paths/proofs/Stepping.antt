@@ -43,9 +43,6 @@ steps_few h m leaves few = zip_none (sides_of m (length leaves)) (audit_path h m
 
 module _ (h : List ℕ → List ℕ) (all front back : List (List ℕ)) (steps made : List Step) (root : List ℕ) (m : ℕ) (more : 2 ≤ length all) (is_front : front ≡ take (split_of (length all)) all)
     (is_back : back ≡ drop (split_of (length all)) all) where
-  k : ℕ
-  k = split_of (length all)
-
   pub steps_made_front : m < length front → steps ≡ audit_steps h m front → root ≡ tree_hash h back → made ≡ steps ++ (other.Right, root) ∷ [] → made ≡ audit_steps h m all
   steps_made_front lt is_steps is_root is_made =
       let count = front_count all front more is_front in

@@ -1,28 +1,12 @@
 -- Which leaf is of the event with a number.
-use Rattle.std.proofs.Common.{◌≡◌, ◌≤◌, ◌<◌, ◌+◌, ℕ, Bool, true, false, nat_lt, List, length, Option, Some, None, refl, arith, sym, ◌∙◌, subst}
+use Rattle.std.proofs.Common.{◌≡◌, ◌≤◌, ◌<◌, ℕ, List, length, Option, Some, None, arith, sym, ◌∙◌, subst}
 use Rattle.std.specs.List.{slice_get}
-use Rattle.std.proofs.lemmas.Bool.{ltb-true, ltb-false}
 use Rattle.std.proofs.lemmas.Option.{slice_get_within}
 use Rattle.audit_row_receipt.specs.RowsMade.{IsLeafOf, HasNoLeaf, IsPlaceOf}
 
 -- none of the first n leaves is
 abbrev pub NoneBefore : ℕ → List (List ℕ) → ℕ → Type 0
 NoneBefore seq leaves n = (k : ℕ) (leaf : List ℕ) → k < n → slice_get leaves k ≡ Some leaf → IsLeafOf seq leaf → ⊥
-
-pub none_first : (seq : ℕ) (leaves : List (List ℕ)) → NoneBefore seq leaves 0
-none_first seq leaves = λ k leaf lt at of. absurd (omega (arith, lt))
-
-pub none_next : (seq n : ℕ) (leaves : List (List ℕ)) (leaf : List ℕ) → NoneBefore seq leaves n → slice_get leaves n ≡ Some leaf → (IsLeafOf seq leaf → ⊥) → NoneBefore seq leaves (n + 1)
-none_next seq n leaves leaf before at other = λ k own lt own_at of. by k own own_at of (nat_lt k n) refl lt
-  where
-    by : (k : ℕ) (own : List ℕ) → slice_get leaves k ≡ Some own → IsLeafOf seq own → (b : Bool) → nat_lt k n ≡ b → k < n + 1 → ⊥
-    by k own own_at of true t lt = before k own (ltb-true k n t) own_at of
-    by k own own_at of false t lt =
-        let ge = ltb-false k n t in
-        let same : k ≡ n = omega (arith, ge, lt) in
-        let both : Some own ≡ Some leaf = sym own_at ∙ subst (λ (j : ℕ). slice_get leaves j ≡ Some leaf) (sym same) at in
-        let is : own ≡ leaf = cc in
-        other (subst (IsLeafOf seq) is of)
 
 pub none_at_all : (seq n : ℕ) (leaves : List (List ℕ)) → length leaves ≤ n → NoneBefore seq leaves n → HasNoLeaf seq leaves
 none_at_all seq n leaves all before = λ k leaf at of. before k leaf (let within = slice_get_within leaves k leaf at in omega (arith, within, all)) at of

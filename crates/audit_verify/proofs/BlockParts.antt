@@ -1,11 +1,9 @@
 -- So many blocks of an image, from one place on.
-use Rattle.std.proofs.Common.{◌≡◌, ◌<◌, ◌≤◌, ◌+◌, ◌-◌, ℕ, suc, Bool, true, false, refl, sym, ap, ◌∙◌, List, [], ◌∷◌, length, map, take, drop, get_or, arith, Option, Some, None}
+use Rattle.std.proofs.Common.{◌≡◌, ◌<◌, ◌≤◌, ◌+◌, ◌-◌, ℕ, suc, Bool, true, false, refl, sym, ap, ◌∙◌, List, [], ◌∷◌, length, map, take, drop, arith, Option, Some, None}
 use Rattle.std.specs.Prelude.{◌&&◌, nat_le}
-use Rattle.std.specs.List.{sum_by}
 use Rattle.std.specs.Str.{bytes_eq}
 use Rattle.std.proofs.lemmas.Bool.{lt-leb}
 use Rattle.std.proofs.lemmas.List.{length-drop}
-use Rattle.std.proofs.lemmas.List.Sums.{sum_by_more, sum_by_more_le}
 use Rattle.base_merkle.specs.TreeHash.{tree_hash}
 use Rattle.format_entry.specs.Entry.{entry_bytes}
 use Rattle.sql_types.specs.declared.entry.BlockRecord.{BlockRecord}
@@ -71,21 +69,3 @@ module _ (h : List ℕ → List ℕ) (i : Image) where
       here : (rest : List BlockRecord) → drop from i.blocks ≡ rest → Some (at.Block from) ≡ faulty_block h i from n
       here [] none = absurd (omega (arith, some, within, length-drop from i.blocks, ap length none))
       here (r ∷ more) e = next_fails from n (n - 1) r more (faulty_block h i from n) e (omega (arith, some)) refl (outgrown from r many)
-
--- ---- how many entries some blocks have
-
-abbrev size : BlockRecord → ℕ
-size r = r.size
-
-pub counted_more : (rs : List BlockRecord) (k : ℕ) (r : BlockRecord) (count next : ℕ) → k < length rs → r ≡ get_or rs k r
-    → count ≡ sum_by size (take k rs) → next ≡ count + r.size → next ≡ sum_by size (take (k + 1) rs)
-counted_more rs k r count next within is so_far more =
-    more ∙ ap (λ (n : ℕ). n + r.size) so_far ∙ ap (λ (x : BlockRecord). sum_by size (take k rs) + x.size) is
-    ∙ sym (sum_by_more size rs k r within)
-
-pub counted_over : (rs : List BlockRecord) (k : ℕ) (r : BlockRecord) (count most : ℕ) → k < length rs → r ≡ get_or rs k r
-    → count ≡ sum_by size (take k rs) → most < count + r.size → most < sum_by size rs
-counted_over rs k r count most within is so_far over =
-    let le : sum_by size (take k rs) + (get_or rs k r).size ≤ sum_by size rs = sum_by_more_le size rs k r within in
-    let same : r.size ≡ (get_or rs k r).size = ap (λ (x : BlockRecord). x.size) is in
-    omega (arith, le, same, so_far, over)

@@ -20,11 +20,11 @@ use Rattle.audit_replay.specs.declared.running.ReplayErr.{ReplayErr}
 use Rattle.audit_replay.specs.declared.running.ReplayErr.TheVariants as errors
 use Rattle.cli_audit.specs.declared.status.Status.{Status}
 use Rattle.cli_audit.specs.declared.status.Status.TheVariants.{Done, No, Words, Limit, SourceFault, SinkFault, VaultFault, Missing, Digests, Journal, Form, Memory, NotImage, NoEntry, Receipt, TooFar}
-use Rattle.cli_audit.specs.Answer.{HasRead, Unfailed}
+use Rattle.cli_audit.specs.Answer.{Unfailed}
 use Rattle.cli_audit.specs.AsOf.{AreReadsBehind, HasReadBehind, IsUnread}
-use Rattle.cli_audit.specs.Calls.{AreGets, AreGetsInputAndPuts, ArePuts, AreReads, AreWrites, Behind, Gave}
+use Rattle.cli_audit.specs.Calls.{AreGets, AreGetsInputAndPuts, ArePuts, Behind, Gave}
 use Rattle.cli_audit.specs.Names.{LacksName, image_limit}
-use Rattle.cli_audit.specs.Past.{AreReadsBehindPast, HasReadBehindPast, IsRefusedAt, LacksPast, MayGoOn, PastUnder}
+use Rattle.cli_audit.specs.Past.{AreReadsBehindPast, HasReadBehindPast, IsRefusedAt, LacksPast, MayGoOn}
 use Rattle.cli_audit.specs.Replay.{AreRefused, IsSpelled, IsUnderName, JournalUnder, LacksJournal, replay_status}
 use Rattle.cli_audit.proofs.AsOfLemmas.{by_unread}
 use Rattle.cli_audit.proofs.CallLemmas.{since_none, since_weaker}
@@ -147,11 +147,6 @@ leads_may_go_on h size J past leads =
       all_front (λ i. end_inside statement_of i ≡ None) J.items closings (subst (NoneEndsInside statement_of) leads.items leads.led.inside),
     )
 
--- where a past was read, such a journal stands under the name
-pub past_is_under : (h : List ℕ → List ℕ) (size : ℕ) (name : List ℕ) (names : Option Names) (past : Past) → JournalUnder name names (λ J. LeadsOn h size J past) → PastUnder name names
-past_is_under h size name names past under =
-    record { J = under.J; bytes = under.bytes; is_in_vault = under.is_in_vault; spelled = under.spelled; such = leads_may_go_on h size under.J past under.such }
-
 -- ---- where no past is read, nothing else is called
 
 -- by cases on the status
@@ -174,11 +169,6 @@ by_past P name names vault long missing refused failed short Receipt lacks = abs
 by_past P name names vault long missing refused failed short (TooFar entries) lacks = absurd lacks
 by_past P name names vault long missing refused failed short (Form line) lacks = absurd lacks
 
--- with want of memory the input may be unread
-pub short_unread : (input : Option (List ℕ)) → IfSome input (λ all. HasReadBehindPast Memory all input)
-short_unread None = tt
-short_unread (Some all) = (0, omega arith, refl)
-
 module _ (name : List ℕ) (names : Option Names) (vault : Type 0) (status : Status) (lacks : LacksPast status name names vault) where
   pub past_unread : (input : Option (List ℕ)) → IfSome input (λ all. HasReadBehindPast status all input)
   past_unread None = tt
@@ -196,21 +186,10 @@ module _ (name : List ℕ) (names : Option Names) (vault : Type 0) (status : Sta
       (by_past (λ s. (answers : Answers) → AreGets 1 s answers → AreGetsInputAndPuts 1 s answers) name names vault
       (λ answers gets. inl gets) (λ which answers gets. gets) (λ at answers gets. gets) (λ answers gets. inl gets) (λ answers gets. inl gets) status lacks)
 
-  pub past_no_writes : (now : List (Result ℕ Failed) → Type 0) → Since now now (AreWrites status)
-  past_no_writes now =
-      since_none now (AreWrites status) (by_past (λ s. AreWrites s []) name names vault refl (λ which. refl) (λ at. refl) refl refl status lacks)
-
   pub past_unfailed : (calm source sink : Type 0) → source → sink → Unfailed status ⊤ calm ⊤ → Unfailed status source calm sink
   past_unfailed calm source sink s k =
       by_past (λ e. Unfailed e ⊤ calm ⊤ → Unfailed e source calm sink) name names vault
       (λ u. (s, u.1, k)) (λ which u. (s, u.1, k)) (λ at u. (s, u.1, k)) (λ u. (s, k)) (λ u. (s, u.1, k)) status lacks
-
--- memory ran out behind the names, before anything was put
-pub short_gets : (k : ℕ) (old now : Answers → Type 0) → Since old now (Gave k) → Since old now (AreGetsInputAndPuts k Memory)
-short_gets k old now = since_weaker old now (Gave k) (AreGetsInputAndPuts k Memory) (λ answers all. inl (inl all.0, omega (arith, all.1)))
-
-pub short_no_reads : (now : List (Result ℕ Failed) → Type 0) → Since now now (AreReadsBehindPast Memory)
-short_no_reads now = since_none now (AreReadsBehindPast Memory) (inl refl)
 
 -- ---- the input isn't read to its end behind the names
 
@@ -228,9 +207,6 @@ module _ (input : Option (List ℕ)) (source : Type 0) (status : Status) (unread
   pub unread_reads_behind : (old now : List (Result ℕ Failed) → Type 0) → Since old now (AreReadsBehind status) → Since old now (AreReadsBehindPast status)
   unread_reads_behind old now =
       by_unread (λ s. Since old now (AreReadsBehind s) → Since old now (AreReadsBehindPast s)) input source (λ much r. r) (λ fault r. r) (λ r. r) status unread
-
-  pub unread_no_writes : (now : List (Result ℕ Failed) → Type 0) → Since now now (AreWrites status)
-  unread_no_writes now = since_none now (AreWrites status) (by_unread (λ s. AreWrites s []) input source (λ much. refl) (λ fault. refl) refl status unread)
 
 -- ---- the input was read, and files may be put
 
@@ -277,24 +253,3 @@ module _ (old mid new : Answers → Type 0) (k : ℕ) where
       by_run (λ s. Since mid new (ArePuts s) → Since old new (AreGetsInputAndPuts k s))
       (gets_then old mid new k (ArePuts Done) gave) (too_many gave) (gets_then old mid new k (ArePuts SinkFault) gave)
       (then_or old mid new k VaultFault gave) (λ line. gave_alone gave) (then_or old mid new k Memory gave) status is
-
-module _ (status : Status) (is : IsBehindInput status) where
-  read_behind : (all : List ℕ) (rest : Option (List ℕ)) → HasRead status all rest → HasReadBehindPast status all rest
-  read_behind all rest =
-      by_run (λ s. HasRead s all rest → HasReadBehindPast s all rest) (λ r. r) (λ r. inr r) (λ r. r) (λ r. inr r) (λ line r. r) (λ r. r) status is
-
-  pub run_read : (input rest : Option (List ℕ)) → IfSome input (λ all. HasRead status all rest) → IfSome input (λ all. HasReadBehindPast status all rest)
-  run_read None rest read = tt
-  run_read (Some all) rest read = read_behind all rest read
-
-  pub run_reads : (old now : List (Result ℕ Failed) → Type 0) → Since old now (AreReads status) → Since old now (AreReadsBehindPast status)
-  run_reads old now =
-      since_weaker old now (AreReads status) (AreReadsBehindPast status)
-      (by_run (λ s. (answers : List (Result ℕ Failed)) → AreReads s answers → AreReadsBehindPast s answers)
-      (λ answers r. r) (λ answers r. inr r) (λ answers r. r) (λ answers r. inr r) (λ line answers r. r) (λ answers r. inr r) status is)
-
-  -- the source hasn't failed
-  pub run_unfailed : (source vault sink : Type 0) → source → Unfailed status ⊤ vault sink → Unfailed status source vault sink
-  run_unfailed source vault sink s =
-      by_run (λ e. Unfailed e ⊤ vault sink → Unfailed e source vault sink)
-      (λ u. (s, u.1, u.2)) (λ u. (s, u.1, u.2)) (λ u. (s, u.1)) (λ u. (s, u.1)) (λ line u. (s, u.1, u.2)) (λ u. (s, u.1, u.2)) status is

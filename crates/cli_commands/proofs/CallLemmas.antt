@@ -1,13 +1,13 @@
 -- What has been answered by the status of a call that runs an input.
-use Rattle.std.proofs.Common.{ℕ, List, [], refl, inl, inr, Option, Result, Ok, Vec}
+use Rattle.std.proofs.Common.{ℕ, List, inr, Option, Result, Ok, Vec}
 use Rattle.std.specs.declared.alloc.Global.{Global}
 use Rattle.base_io.specs.declared.failed.Failed.{Failed}
 use Rattle.base_io.specs.History.{Since, EndsAt}
 use Rattle.cli_audit.specs.declared.status.Status.{Status}
 use Rattle.cli_audit.specs.declared.status.Status.TheVariants.{Done, No, Words, Limit, SourceFault, SinkFault, VaultFault, Missing, Digests, Journal, Form, Memory, NotImage, NoEntry, Receipt, TooFar}
 use Rattle.cli_commands.specs.Answer.{InputCause}
-use Rattle.cli_audit.specs.Calls.{Moved, ReadsOf, AreReads, ArePuts, AreWrites}
-use Rattle.cli_commands.specs.Input.{InputForm, IsRefused}
+use Rattle.cli_audit.specs.Calls.{Moved, ReadsOf, AreReads}
+use Rattle.cli_commands.specs.Input.{InputForm}
 use Rattle.cli_audit.proofs.CallLemmas.{since_weaker}
 
 module _ {A : Type 0} (form : InputForm A) where
@@ -35,41 +35,3 @@ module _ {A : Type 0} (form : InputForm A) where
       → InputCause form status input ⊥ vault sink → Since old now (ReadsOf (Ok v)) → Since old now (AreReads status)
   reads_whole status input vault sink v old now cause reads =
       since_weaker old now (ReadsOf (Ok v)) (AreReads status) (read_to_end status input vault sink cause) reads
-
-module _ {A : Type 0} (form : InputForm A) where
-  -- where the input isn't run, nothing is put and nothing is written
-  pub unput : (status : Status) (bytes : List ℕ) → IsRefused form status bytes → ArePuts status []
-  unput Limit bytes is = refl
-  unput (Form line) bytes is = refl
-  unput Memory bytes is = inl refl
-  unput Done bytes is = absurd is
-  unput Words bytes is = absurd is
-  unput No bytes is = absurd is
-  unput (Missing which) bytes is = absurd is
-  unput (Digests index) bytes is = absurd is
-  unput NoEntry bytes is = absurd is
-  unput NotImage bytes is = absurd is
-  unput Receipt bytes is = absurd is
-  unput (TooFar entries) bytes is = absurd is
-  unput (Journal at) bytes is = absurd is
-  unput SourceFault bytes is = absurd is
-  unput SinkFault bytes is = absurd is
-  unput VaultFault bytes is = absurd is
-
-  pub unwritten : (status : Status) (bytes : List ℕ) → IsRefused form status bytes → AreWrites status []
-  unwritten Limit bytes is = refl
-  unwritten (Form line) bytes is = refl
-  unwritten Memory bytes is = refl
-  unwritten Done bytes is = absurd is
-  unwritten Words bytes is = absurd is
-  unwritten No bytes is = absurd is
-  unwritten (Missing which) bytes is = absurd is
-  unwritten (Digests index) bytes is = absurd is
-  unwritten NoEntry bytes is = absurd is
-  unwritten NotImage bytes is = absurd is
-  unwritten Receipt bytes is = absurd is
-  unwritten (TooFar entries) bytes is = absurd is
-  unwritten (Journal at) bytes is = absurd is
-  unwritten SourceFault bytes is = absurd is
-  unwritten SinkFault bytes is = absurd is
-  unwritten VaultFault bytes is = absurd is

@@ -1,6 +1,5 @@
 -- How a call ends that goes on from a journal, by how its parts end.
 use Rattle.std.proofs.Common.{◌≡◌, ◌⊎◌, ◌+◌, ◌≤◌, ℕ, List, [], length, drop, Option, Some, None, IfSome, Ok, Result, sym, ◌∙◌, ap, arith, refl, subst, inl, inr}
-use Rattle.std.specs.Prelude.{⊤}
 use Rattle.std.proofs.Math.Seq.{drop-length}
 use Rattle.std.proofs.lemmas.List.{drop_all}
 use Rattle.base_io.specs.declared.failed.Failed.{Failed}
@@ -10,56 +9,29 @@ use Rattle.sql_types.specs.declared.journal.Journal.{Journal as JournalOf}
 use Rattle.server_session.specs.KeptCell.{KeptCell}
 use Rattle.cli_audit.specs.declared.status.Status.{Status}
 use Rattle.cli_audit.specs.declared.status.Status.TheVariants.{Done, No, Words, Limit, SourceFault, SinkFault, VaultFault, Missing, Digests, Journal, Form, Memory, NotImage, NoEntry, Receipt, TooFar}
-use Rattle.cli_audit.specs.Answer.{Unfailed}
 use Rattle.cli_audit.specs.AsOf.{HasReadBehind, IsUnread}
 use Rattle.cli_audit.specs.Calls.{AreWrites, Moved}
-use Rattle.cli_audit.specs.Past.{AreReadsBehindPast, HasReadBehindPast, LacksPast, MayGoOn, PastUnder}
+use Rattle.cli_audit.specs.Past.{AreReadsBehindPast, HasReadBehindPast, MayGoOn, PastUnder}
 use Rattle.cli_audit.specs.Replay.{JournalUnder, ReplayedOrIdle}
-use Rattle.cli_audit.specs.Transfer.{IsTooMuch, input_limit}
+use Rattle.cli_audit.specs.Transfer.{input_limit}
 use Rattle.cli_audit.proofs.AsOfLemmas.{by_unread}
 use Rattle.cli_audit.proofs.CallLemmas.{since_weaker}
 use Rattle.cli_audit.proofs.PastLemmas.{IsBehindInput, by_past, by_run, leads_may_go_on, unread_read_behind}
 use Rattle.cli_commands.specs.Answer.{InputCause, RunOutcomeOrIdle}
 use Rattle.cli_commands.specs.GoesOn.{CauseBehind, LacksStart, StartsFrom}
-use Rattle.cli_commands.specs.Input.{InputForm, IsBeyond}
+use Rattle.cli_commands.specs.Input.{InputForm}
 
 -- ---- no run starts
 
-too_much : {A : Type 0} (form : InputForm A) (input : Option (List ℕ)) → IfSome input IsTooMuch → IfSome input (IsBeyond form)
-too_much form None much = tt
-too_much form (Some all) much = inl much
-
 module _ (journal : List ℕ) (names : Option Names) (vault : Type 0) (input : Option (List ℕ)) (source : Type 0) where
-  module _ {A : Type 0} (form : InputForm A) (sink : Type 0) where
-    lacking_past : (status : Status) → LacksPast status journal names vault → CauseBehind form status journal names input source vault sink
-    lacking_past status lacks =
-        by_past (λ s. LacksPast s journal names vault → CauseBehind form s journal names input source vault sink) journal names vault
-        (λ l. inl l) (λ which l. l) (λ at l. l) (λ l. l) (λ l. tt) status lacks lacks
-
-    lacking_input : PastUnder journal names → (status : Status) → IsUnread status input source → CauseBehind form status journal names input source vault sink
-    lacking_input past = by_unread (λ s. CauseBehind form s journal names input source vault sink) input source (λ much. inr (past, too_much form input much)) (λ fault. fault) tt
-
-    pub cause_lacking : (status : Status) → LacksStart status journal names input source vault → CauseBehind form status journal names input source vault sink
-    cause_lacking status (inl lacks) = lacking_past status lacks
-    cause_lacking status (inr lacks) = lacking_input lacks.0 status lacks.1
-
   by_lacking : (P : Status → Type 0) → P Limit → ((which : ℕ) → P (Missing which)) → ((at : Option (ℕ × ℕ)) → P (Journal at)) → P VaultFault → P SourceFault → P Memory
       → (status : Status) → LacksStart status journal names input source vault → P status
   by_lacking P long missing refused failed silent short status (inl lacks) = by_past P journal names vault long missing refused failed short status lacks
   by_lacking P long missing refused failed silent short status (inr lacks) = by_unread P input source (λ much. long) (λ fault. silent) short status lacks.1
 
   module _ (status : Status) (lacks : LacksStart status journal names input source vault) where
-    pub idle_lacking : (ran idle : Type 0) → idle → ReplayedOrIdle status ran idle
-    idle_lacking ran idle is = by_lacking (λ s. ReplayedOrIdle s ran idle) is (λ which. is) (λ at. is) (inr is) is (inr is) status lacks
-
     pub writes_lacking : AreWrites status []
     writes_lacking = by_lacking (λ s. AreWrites s []) refl (λ which. refl) (λ at. refl) refl refl refl status lacks
-
-    -- the sink was not called
-    pub unfailed_lacking : (s v sink : Type 0) → sink → Unfailed status s v ⊤ → Unfailed status s v sink
-    unfailed_lacking s v sink is =
-        by_lacking (λ t. Unfailed t s v ⊤ → Unfailed t s v sink)
-        (λ u. (u.0, u.1, is)) (λ which u. (u.0, u.1, is)) (λ at u. (u.0, u.1, is)) (λ u. (u.0, is)) (λ u. (u.0, is)) (λ u. (u.0, u.1, is)) status lacks
 
 -- ---- a run was started
 
@@ -108,12 +80,6 @@ module _ (status : Status) (is : IsBehindInput status) where
       ran_or : ran ⊎ idle → then_ ⊎ idle_then
       ran_or (inl r) = inl (f r)
       ran_or (inr i) = inr (g i)
-
-  -- neither the source nor the vault had failed before
-  pub unfailed_behind : (source vault vault_then sink : Type 0) → source → (vault → vault_then) → Unfailed status ⊤ vault sink → Unfailed status source vault_then sink
-  unfailed_behind source vault vault_then sink s f =
-      by_run (λ t. Unfailed t ⊤ vault sink → Unfailed t source vault_then sink)
-      (λ u. (s, f u.1, u.2)) (λ u. (s, f u.1, u.2)) (λ u. (s, f u.1)) (λ u. (s, u.1)) (λ line u. (s, f u.1, u.2)) (λ u. (s, f u.1, u.2)) status is
 
 -- what is so of what came is so of the input
 pub came_so : (input : Option (List ℕ)) (came : List ℕ) (P : List ℕ → Type 0) → IfSome input (λ all. came ≡ all) → P came → IfSome input P

@@ -51,10 +51,6 @@ kept_rows (o ∷ os) [] place rows = ap (λ r. fold with_default r (map full_opt
 kept_rows options (p ∷ ps) place rows =
     ap (λ r. fold with_default r (operand_rules ps (place + 1) ++ map full_option options)) (same_rows (has_row p rows) rows) ∙ kept_rows options ps (place + 1) rows
 
-or_assoc : (a b d : Kinds) → or_else (or_else a b) d ≡ or_else a (or_else b d)
-or_assoc [] b d = refl
-or_assoc (k ∷ ks) b d = refl
-
 or_nil : (k : Kinds) → or_else k [] ≡ k
 or_nil [] = refl
 or_nil (k ∷ ks) = refl

@@ -111,9 +111,6 @@ module _ {H : Type 0} (digest : H → List ℕ → List ℕ) (h : H) (a : CoreIn
     sit = both_last (SitsOrIsOver digest h) (seats_seen c.sessions.items) o.states o.sit y.seat (sits s (new_session name s)) (inl (its_begin v s o.stand.present refl).sits);
   }
 
-  sessions_more : List (Session H)
-  sessions_more = c.sessions.items ++ y ∷ []
-
   seats_more : seats_seen (c.sessions.items ++ y ∷ []) ≡ seats_seen c.sessions.items ++ y.seat ∷ []
   seats_more = seen_last (λ (u : Session H). u.seat) c.sessions.items y
 

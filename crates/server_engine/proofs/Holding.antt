@@ -42,7 +42,7 @@ use Rattle.server_engine.proofs.AllCells.{among_all, image_goes}
 use Rattle.server_engine.proofs.AnonymousActs.{plain_running}
 use Rattle.server_engine.proofs.OneServer as one
 use Rattle.server_engine.proofs.OneServer.{it_sits}
-use Rattle.server_engine.proofs.Pairs.{Beside, beside, Seen, seen_at, seen_of, seen_set, both_set, each_set, each_there}
+use Rattle.server_engine.proofs.Pairs.{Beside, beside, seen_at, seen_set, both_set, each_set, each_there}
 use Rattle.server_engine.proofs.Pending.{fewer_at, none_more_at, one_more_at}
 use Rattle.server_visits.proofs.Servers.{some_server}
 use Rattle.server_engine.proofs.Texts.{text_more}
@@ -166,9 +166,6 @@ module _ {H : Type 0} (digest : H → List ℕ → List ℕ) (h : H) {cells : Li
 
   pub as_many : length cells ≡ cell_count
   as_many = sym (length-map cells (λ c. c.cell)) ∙ cells_are.count
-
-  pub its_ledger : Seen (λ (c : KeptCell). c.cell) cells ledger_at (Ledger (one.ledger digest h somewhere.2))
-  its_ledger = seen_of (λ c. c.cell) cells ledger_at (Ledger (one.ledger digest h somewhere.2)) cells_are.has_ledger
 
   pub size_is : (one.ledger digest h somewhere.2).block_size ≡ a.size
   size_is = one.block_size_is digest h somewhere.2

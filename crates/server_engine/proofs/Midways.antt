@@ -314,6 +314,3 @@ turned_on {H} j b c d P Q R f s t = record {
 
 pub turned_none : {H : Type 0} (j : ℕ) (c : Core H) (y : Session H) → get_elem? c.sessions.items j ≡ some y → (P : Seat H → Seat H → Type 0) → P y.seat y.seat → ChangesSession P j c c
 turned_none j c y there P p = record { y = y; z = y; there = there; are = sym (set_same c.sessions.items j y there); went = p }
-
-pub turned_same : {H : Type 0} (j : ℕ) (c d e : Core H) (P : Seat H → Seat H → Type 0) → e.sessions ≡ d.sessions → ChangesSession P j c d → ChangesSession P j c e
-turned_same j c d e P same t = record { y = t.y; z = t.z; there = t.there; are = ap (λ ys. ys.items) same ∙ t.are; went = t.went }

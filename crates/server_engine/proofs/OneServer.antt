@@ -29,7 +29,6 @@ use Rattle.law_sequential.proofs.Goes.{all_silent}
 use Rattle.law_sequential.proofs.GoesBehind.{since, ledger_is, sized, some_size, close_more}
 use Rattle.law_sequential.proofs.SeatOn.{waits_by_anonymous_acts}
 use Rattle.law_sequential.proofs.SeatOnBehind.{alone_on, over_now}
-use Rattle.law_sequential.proofs.SessionsStand.{ShownAt, shown_at}
 use Rattle.law_sequential.proofs.SessionsStandBehind.{cells_on}
 use Rattle.server_visits.specs.Full.{ClosesOne}
 use Rattle.server_session.specs.KeptCell.{KeptCell, Keeps}
@@ -168,9 +167,6 @@ module _ {H : Type 0} (digest : H → List ℕ → List ℕ) (h : H) {v : Server
 
     abbrev pub s : SeatState
     s = its.y
-
-    shown_there : ShownAt a.moments told j s
-    shown_there = shown_at a.moments told o.states o.stand.shown j s its.there
 
     pub others_inactive : OthersInactive o.states j
     others_inactive k u ne e = let b = behind (SitsOrIsOver digest h) seats o.states o.sit k u e in quiet_state digest h b.x u b.is (others k b.x ne b.there)

@@ -1,17 +1,14 @@
 -- The tables of a legal journal are as the cells want them.
-use Rattle.std.proofs.Common.{◌≡◌, ℕ, ◌+◌, ◌-◌, ◌≤◌, ◌<◌, ◌^◌, Bool, false, List, [], ◌∷◌, ◌++◌, map, flat_map, length, refl, sym, ap, ap₂, subst, ◌∙◌, arith, append-nil}
-use Rattle.std.specs.Prelude.{if◌then◌else◌}
+use Rattle.std.proofs.Common.{◌≡◌, ℕ, ◌+◌, ◌-◌, ◌≤◌, ◌<◌, ◌^◌, false, List, [], ◌∷◌, ◌++◌, map, flat_map, length, refl, sym, ap, subst, ◌∙◌, arith, append-nil}
 use Rattle.std.specs.List.{AllByRecursion, list_any}
-use Rattle.std.proofs.lemmas.Bool.{eq-eqb, ne_eqb}
 use Rattle.std.proofs.lemmas.List.{length-append}
 use Rattle.std.proofs.lemmas.List.Concat.{flat_map-append}
 use Rattle.sql_types.specs.declared.journal.JournalItem.{JournalItem}
 use Rattle.sql_types.specs.declared.journal.JournalItem.TheVariants.{Tx, Close}
 use Rattle.sql_types.specs.declared.table.TableDef.{TableDef}
 use Rattle.sql_types.specs.declared.version.Table.{Table}
-use Rattle.sql_types.specs.declared.version.Version.{Version}
 use Rattle.spec_model.specs.Agreement.{IdsFrom}
-use Rattle.spec_model.specs.Catalog.{Defs, Tables, defs_of, versions_of}
+use Rattle.spec_model.specs.Catalog.{Defs, Tables, defs_of}
 use Rattle.spec_model.specs.Create.{all_names, table_names}
 use Rattle.spec_history.specs.Journals.{blocks}
 use Rattle.spec_ledger.specs.Ledger.{Ledger, ledger_of}
@@ -24,7 +21,6 @@ use Rattle.law_blocks.proofs.Counting.{closed_counted, entries_counted}
 use Rattle.law_blocks.proofs.Staying.{blocks_counted}
 use Rattle.law_catalog_rows.proofs.Journals as rows
 use Rattle.law_journal.proofs.Serials.{legal_described}
-use Rattle.spec_continued.specs.Continued.{catalog_of, catalog_with}
 use Rattle.server_engine.specs.Definitions.{AreFormed}
 use Rattle.server_engine.specs.GoingOn.{HaveNewNames}
 use Rattle.server_engine.specs.HashedCell.{IsCounted}
@@ -114,16 +110,6 @@ is_counted h reads J size next l legal some most few e =
 -- ---- the first two tables
 
 module _ (a b : Table) (us : Tables) (ids : IdsFrom 1 (defs_of (a ∷ b ∷ us))) where
-  pub catalog_is : catalog_with (defs_of (a ∷ b ∷ us)) a.versions b.versions ≡ catalog_of (a ∷ b ∷ us)
-  catalog_is =
-      let one = eq-eqb a.def.id 1 ids.0 in
-      let other = ne_eqb a.def.id 2 (λ e. let own = ids.0 in omega (arith, e, own)) in
-      let two = eq-eqb b.def.id 2 ids.1.0 in
-      ap₂ (λ (x y : List Version). catalog_with (defs_of (a ∷ b ∷ us)) x y)
-      (ap (λ (t : Bool). if t then a.versions else versions_of (b ∷ us) 1) (sym one))
-      (ap (λ (t : Bool). if t then b.versions else versions_of us 2) (sym two)
-      ∙ ap (λ (t : Bool). if t then a.versions else versions_of (b ∷ us) 2) (sym other))
-
   pub rows_are : length us ≤ 32 → all_rows_kept (a ∷ b ∷ us) 32 3 ≡ map rows_kept us ++ all_empty (32 - length us) (3 + length us)
   rows_are few =
       all_passed a (b ∷ us) 32 3 (let e = ids.0 in omega (arith, e))

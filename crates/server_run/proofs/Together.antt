@@ -1,5 +1,5 @@
 -- What the sessions of a part of a plan wrote, and those of two parts.
-use Rattle.std.proofs.Common.{◌≡◌, ℕ, List, [], ◌∷◌, ◌++◌, map, sym, ap, ap₂, subst, ◌∙◌, append_assoc, append-nil, ⊎_elim}
+use Rattle.std.proofs.Common.{◌≡◌, ℕ, List, [], ◌∷◌, ◌++◌, map, sym, ap, ap₂, subst, ◌∙◌, append_assoc, ⊎_elim}
 use Rattle.spec_history.specs.Lists.{Text, In}
 use Rattle.spec_history.specs.Transcripts.{Transcript}
 use Rattle.spec_history.proofs.Settles.{in_append, in_left, in_right}
@@ -36,10 +36,7 @@ module _ (says : ℕ → Type 0) where
   are_both (p ∷ ps) qs [] fs vs ws a b = absurd a
   are_both (p ∷ ps) qs (e ∷ es) fs [] ws a b = absurd a
 
-  -- ---- of none, and of one
-
-  pub have_none : (s : SeatState) → s.role ≡ idle → HaveWritten says [] [] s s
-  have_none s role = record { rests = is_at_rest s role; ws = []; wrote = sym (append-nil s.written); are = tt; knew = tt }
+  -- ---- of one
 
   pub have_one : (p : Section) (texts : List Text) (left e : SessionEnd) (s t : SeatState) → texts ≡ statements_run (section_view p)
       → HasWritten says p.name.now texts left (known_by s) s.written t → e.images ≡ left.images
@@ -83,16 +80,3 @@ module _ (says : ℕ → Type 0) where
       (subst (λ (l : List Section). HaveWritten says l (es ++ fs) s (joined a b)) whole
       (have_both ps qs es fs s n a b role
       (subst (λ (u : SeatState). HaveWritten says ps es u a) first x) (subst (λ (u : SeatState). HaveWritten says qs fs u b) second y))))
-
-  -- beside a seat that wrote nothing
-  pub have_beside : (ps : List Section) (es : List SessionEnd) (s : SeatState) (n : ℕ) (mine a b t : SeatState)
-      → mine ≡ kept s n → b ≡ split s n → t ≡ joined a b → HaveWritten says ps es mine a → HaveWritten says ps es s t
-  have_beside ps es s n mine a b t first second state x =
-      subst (λ (u : SeatState). HaveWritten says ps es s u) (sym state)
-      (subst (λ (u : SeatState). HaveWritten says ps es s (joined a u)) (sym second) beside)
-    where
-      y : HaveWritten says ps es (kept s n) a
-      y = subst (λ (u : SeatState). HaveWritten says ps es u a) first x
-
-      beside : HaveWritten says ps es s (joined a (split s n))
-      beside = record { rests = y.rests; ws = y.ws; wrote = append-nil a.written ∙ y.wrote; are = y.are; knew = y.knew }

@@ -48,9 +48,6 @@ use Rattle.server_session.proofs.Sitting.{in_open_transaction, visited_left, run
 pub alone_then : {H : Type 0} (digest : H → List ℕ → List ℕ) (y z u : Seat H) → StepsAlone digest y [] z → StepsAlone digest z [] u → StepsAlone digest y [] u
 alone_then digest y z u a b v h s serves w = let p = a v h s serves w in steps_both digest h v s [] [] z u p (b v h p.t serves p.sits)
 
-pub stays : {H : Type 0} (digest : H → List ℕ → List ℕ) (y : Seat H) → StepsAlone digest y [] y
-stays digest y v h s serves w = record { t = s; steps = none; lines = refl; plain = tt; sits = w; adds = adds_none s w.x w.role }
-
 -- ---- a transaction as it runs on
 
 module _ {H : Type 0} (digest : H → List ℕ → List ℕ) (h : H) where
@@ -82,12 +79,6 @@ script_same p text (Some r) None o same k = absurd same
 script_same p text (Some r) (Some q) None same k = tt
 script_same p text (Some r) (Some q) (Some o) same k = λ f. k f ∙ ap (λ ls. map line_of ls ++ said_at p text) (sym same.items)
 
-left_same : {H : Type 0} (r q : Option (Running H)) → SameBy r q → left_of q ≡ left_of r
-left_same None None same = refl
-left_same None (Some q) same = absurd same
-left_same (Some r) None same = absurd same
-left_same (Some r) (Some q) same = ap (λ (u : VisitedCells). u.left) same.visited
-
 -- ---- it gets ready
 
 pub read_so : (st : Option Stmt) (text : Text) → st ≡ statement_of text → IsRead st text
@@ -117,11 +108,6 @@ module _ {H : Type 0} (digest : H → List ℕ → List ℕ) (y : Seat H) (begun
   makes_room q same v h s serves w = subst (λ (p : ControlPoint). Steps digest h v s [] (then_seat y y.started y.text y.stmt q p)) (sym at_begin)
       (waits v h s w y.stmt q Begun w.reads (runs_same digest h y.running q w.x.open_one same w.runs)
       (script_same (Inside Begun) y.text y.running q w.x.open_one same (scripted digest h y s w (Inside Begun) at_begin)) (no_room q) refl
-      (holds_at_point digest h y s w (Inside Begun) at_begin))
-
-  pub is_read : (st : Option Stmt) → st ≡ statement_of y.text → StepsAlone digest y [] (then_seat y y.started y.text st y.running y.point)
-  is_read st e v h s serves w = subst (λ (p : ControlPoint). Steps digest h v s [] (then_seat y y.started y.text st y.running p)) (sym at_begin)
-      (waits v h s w st y.running Begun (read_so st y.text e) w.runs (scripted digest h y s w (Inside Begun) at_begin) (no_room y.running) refl
       (holds_at_point digest h y s w (Inside Begun) at_begin))
 
   pub gets_ready : (st : Option Stmt) (q : Option (Running H)) → st ≡ statement_of y.text → SameBy y.running q → StepsAlone digest y [] (then_seat y y.started y.text st q y.point)

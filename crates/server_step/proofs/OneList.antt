@@ -36,9 +36,6 @@ both_parts : (s : ℕ) (rows more : List Row) → entries_of s (rows ++ more) �
 both_parts s [] more = refl
 both_parts s (r ∷ rows) more = one_more (r.0 == s) r.1 (entries_of s (rows ++ more)) (entries_of s rows) (entries_of s more) (both_parts s rows more)
 
-rows_at : ℕ → List Entry → List Row
-rows_at i xs = map (λ x. (i, x)) xs
-
 of_same : (s : ℕ) (xs : List Entry) → entries_of s (map (λ x. (s, x)) xs) ≡ xs
 of_same s [] = refl
 of_same s (x ∷ xs) =

@@ -1,5 +1,5 @@
 -- What a core was asked, and which of its sessions are open, after one thing more.
-use Rattle.std.proofs.Common.{◌≡◌, ◌≢◌, ◌<◌, ◌≤◌, ◌+◌, ◌==◌, ℕ, Bool, true, false, List, [], ◌∷◌, ◌++◌, refl, sym, ap, subst, arith, inr, ⊎_elim, Result, Ok, Err}
+use Rattle.std.proofs.Common.{◌≡◌, ◌≢◌, ◌<◌, ◌≤◌, ◌+◌, ◌==◌, ℕ, Bool, true, false, List, [], ◌∷◌, ◌++◌, refl, sym, ap, subst, arith, Result, Ok, Err}
 use Rattle.std.specs.Prelude.{◌⊎◌, OnOk}
 use mathlib.Core.Option.{Option, some}
 use lib.ListN.{get_elem?}
@@ -10,12 +10,12 @@ use Rattle.server_engine.specs.EndsLast.{running}
 use Rattle.spec_history.specs.Inputs.{InputLine}
 use Rattle.spec_history.specs.Lists.{Text, Each}
 use Rattle.format_lines.specs.Line.{Statement}
-use Rattle.server_engine.specs.CoreInput.{CoreInput, with_line, at_end}
+use Rattle.server_engine.specs.CoreInput.{CoreInput, with_line}
 use Rattle.server_engine.specs.Standing.{Found, IsBetween, IsEnded, IsOpen, IsOver, OthersStay, Stands}
 use Rattle.server_engine.specs.declared.one_thread.Core.{Core}
 use Rattle.server_engine.specs.declared.session.Session.{Session}
 use Rattle.server_result.specs.Moments.{IsMoment}
-use Rattle.server_step.specs.Reached.{AreEnded, AreOpen, Reached, StandsEnded, asked}
+use Rattle.server_step.specs.Reached.{AreEnded, AreOpen, Reached, asked}
 
 pub on_ok : {T E P Q : Type 0} (r : Result T E) → (P → Q) → OnOk r P → OnOk r Q
 on_ok (Ok v) f p = f p
@@ -65,13 +65,6 @@ module _ {H : Type 0} (digest : H → List ℕ → List ℕ) where
 
   pub reached_none : (h : H) (past : Past) (database : Text) (size : ℕ) (names : List Text) (says : ℕ → Type 0) (c : Core H) → Stands digest h c (asked past database size names [] []) → Reached digest h past database size names says [] c
   reached_none h past database size names says c standing = record { times = []; moments = tt; stands = standing }
-
-  -- its sessions are ended one by one
-  pub ended_more : {T E : Type 0} (h : H) (a : CoreInput) (c d : Core H) (r : Result T E) → ((k : H) (b : CoreInput) → Stands digest k c b → OnOk r (Stands digest k d (at_end b))) → StandsEnded digest h c a → OnOk r (StandsEnded digest h d a)
-  ended_more h a c d r stands standing = ⊎_elim
-      (λ s. on_ok r (λ t. inr t) (stands h a s))
-      (λ s. on_ok r (λ t. inr t) (stands h (at_end a) s))
-      standing
 
 -- ---- open sessions
 

@@ -15,7 +15,6 @@ use Rattle.server_session.specs.IsEnd.{IsEnd}
 use Rattle.server_visit_catalog.specs.InCatalog.{released_by, with_visited, Passes, ReleasesNext}
 use Rattle.server_session.specs.KeptCell.{catalog_seen}
 use Rattle.server_session.specs.Needs.{answer_need, back_need, cell_or_done, end_need, end_visits, leaving_need, point_need, point_visits}
-use Rattle.server_session.specs.ControlPoints.{KeepsStatement, IsSamePhase}
 use Rattle.server_session.specs.Sits.{HasScriptCapacity, IsControlPoint, IsRunning, Runs, Sits, left_of, place_seen}
 use Rattle.server_session.specs.Steps.{Among, ComesOn, IsVisit}
 use Rattle.server_session.specs.SessionOutput.{plainly}
@@ -339,6 +338,3 @@ module _ {H : Type 0} (digest : H → List ℕ → List ℕ) (y : Seat H) (c : C
 
     pub released_comes : ComesOn y (catalog_seen c) (catalog_seen d) z
     released_comes = inl (subst (λ (u : Option (Running H)). point_visits y.point (Some q) < point_visits y.point u) (sym has) (point_before y.point at_end))
-
-    pub released_stays : KeepsStatement y z
-    released_stays = record { point = at_end_by (λ p. IsSamePhase p p) y.point at_end (λ w. tt) tt; begun = λ b. b; started = refl; name = refl; text = refl }

@@ -5,13 +5,6 @@ use Rattle.server_session.specs.Moves.{new_transaction}
 use Rattle.store_ledger.specs.HashedCell.{HashedCell}
 use Rattle.server_session.specs.Sits.{IsRunning}
 use Rattle.server_session.specs.declared.running.Running.{Running}
-use Rattle.server_session.specs.declared.seat.Seat.{Seat}
-use Rattle.server_session.specs.declared.stage.ControlPoint.TheVariants.{Inside}
-use Rattle.server_session.specs.declared.stage.Stage.{Stage}
-
--- inside a statement, so far
-abbrev pub IsAtStage : {H : Type 0} → Stage → Seat H → Type 0
-IsAtStage stage y = y.point ≡ Inside stage
 
 -- it has done nothing, and there is room for its first statement where BEGIN opened it
 pub record IsNew {H : Type 0} (digest : H → List ℕ → List ℕ) (h : H) (id : ℕ) (explicit : Bool)

@@ -31,7 +31,6 @@ use Rattle.server_session.specs.declared.running.Running.{Running}
 use Rattle.server_session.specs.declared.seat.Seat.{Seat}
 use Rattle.server_session.specs.declared.stage.ControlPoint.{ControlPoint}
 use Rattle.server_session.specs.declared.stage.ControlPoint.TheVariants.{Inside}
-use Rattle.server_session.specs.declared.stage.Stage.{Stage}
 use Rattle.server_session.specs.declared.stage.Stage.TheVariants.{Made, LacksIndex}
 use Rattle.server_session.proofs.Alone.{adds_at, adds_none, scripted, sits_then, then_seat}
 use Rattle.server_visit_table.proofs.RowsSeat.{RunsNow, has_open, here, holds_there, is_table, its_id, place, put_visited, represents_too, runs_now, in_open_transaction}
@@ -39,9 +38,6 @@ use Rattle.server_visit_table.proofs.RowsThere as there
 use Rattle.server_session.proofs.Sitting.{stmt_found, visited_left}
 
 module _ {H : Type 0} (digest : H → List ℕ → List ℕ) (y : Seat H) (r : Running H) (c : TableCell) (e : y.running ≡ Some r) (def : TableDef) (indexed : Bool) (p : y.point ≡ Inside (Made def indexed)) (a : Among digest y (rows_seen c)) where
-  abbrev stage : Stage
-  stage = Made def indexed
-
   k : RunsNow digest a.h a.sits.x r
   k = runs_now digest a.h y a.sits.x r a.sits.runs e
 

@@ -2,7 +2,6 @@
 use Rattle.std.proofs.Common.{◌≡◌, ◌<◌, ◌≤◌, ◌∙◌, ℕ, zero, suc, refl, sym, ap, ap₂, subst, arith, false, List, [], ◌∷◌, length, map, get_or}
 use Rattle.std.specs.Prelude.{◌==◌, nat_le}
 use Rattle.std.proofs.lemmas.Bool.{lt-leb, ne_eqb}
-use Rattle.std.proofs.lemmas.List.{length-map}
 use mathlib.Core.Option.{none, some}
 use lib.ListN.{get_elem?}
 use Rattle.sql_types.specs.declared.image.Image.{Image}
@@ -14,13 +13,12 @@ use Rattle.server_session.specs.Ledger.{ledger_of}
 use Rattle.format_image.specs.Image.{image_of}
 use Rattle.format_image.specs.ImageBytes.{image_bytes}
 use Rattle.store_image.specs.Room.{FitsImageFormat}
-use Rattle.server_session.specs.Cells.{AreCells, Catalog, CatalogCell, Cell, Ledger, LedgerCell, cell_count, cell_of, versions_at, versions_found, versions_in}
+use Rattle.server_session.specs.Cells.{AreCells, Catalog, CatalogCell, Cell, Ledger, LedgerCell, cell_of, versions_at, versions_found, versions_in}
 use Rattle.server_session.specs.Seats.{SeatState}
 use Rattle.server_session.specs.Server.{Server}
 use Rattle.server_session.specs.Serves.{Serves}
 use Rattle.server_session.specs.StandTogether.{History, Stands}
 use Rattle.store_image.proofs.CellsShow.{same_image, same_tables}
-use Rattle.store_image.specs.CellsImage.{cells_image}
 use Rattle.store_image.specs.Leads.{LeadsThere}
 use Rattle.server_visits.specs.Images.{AreImageBytes, CellsStand, JournalFitsFormat}
 use Rattle.server_session.specs.KeptCell.{KeptCell}
@@ -70,9 +68,6 @@ module _ (id place : ℕ) (all : List KeptCell) (versions : List Version) (at : 
 
 module _ (all : List KeptCell) (catalog : CatalogCell) (ledger : LedgerCell)
     (are : AreCells (cells_of all) catalog ledger) where
-  pub enough : length all ≡ cell_count
-  enough = sym (length-map all (λ c. c.cell)) ∙ are.count
-
   pub is_catalog : (found : CatalogCell) → get_elem? (cells_of all) 0 ≡ some (Catalog found) → found ≡ catalog
   is_catalog found there =
       let same : some (Catalog found) ≡ some (Catalog catalog) = sym there ∙ are.has_catalog in cc
@@ -99,14 +94,6 @@ module _ (all : List KeptCell) (stand : CellsStand all) where
         ∙ ap (λ (reads : Reading). serial reads st.ledger.items) stand.serves.reading;
     sized = stand.sized;
   })
-
-  pub are_image_bytes : (catalog : CatalogCell) (ledger : LedgerCell) (bytes : List ℕ)
-      → get_elem? (cells_of all) 0 ≡ some (Catalog catalog) → get_elem? (cells_of all) 1 ≡ some (Ledger ledger)
-      → bytes ≡ image_bytes (cells_image (cells_of all) catalog ledger) → AreImageBytes all bytes
-  are_image_bytes catalog ledger bytes first second is c l are =
-      is
-      ∙ ap₂ (λ (x : CatalogCell) (y : LedgerCell). image_bytes (cells_image (cells_of all) x y))
-      (is_catalog all c l are catalog first) (is_ledger all c l are ledger second)
 
   pub journal_has_room : (ledger : LedgerCell) → get_elem? (cells_of all) 1 ≡ some (Ledger ledger)
       → FitsImageFormat stand.hash statement_of ledger.database ledger.items → JournalFitsFormat stand.hash all

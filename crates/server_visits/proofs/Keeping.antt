@@ -1,5 +1,5 @@
 -- The visit of all cells, in which an image is kept or memory is wanting.
-use Rattle.std.proofs.Common.{◌≡◌, ◌<◌, ◌+◌, ℕ, false, List, [], ◌∷◌, ◌++◌, Option, Some, None, length, length-append, map, refl, sym, ap, ap₂, ◌∙◌, subst, subst₂, arith}
+use Rattle.std.proofs.Common.{◌≡◌, ◌<◌, ◌+◌, ℕ, false, List, [], ◌∷◌, ◌++◌, Option, Some, None, length, length-append, map, refl, sym, ap, ap₂, ◌∙◌, subst, arith}
 use Rattle.std.proofs.lemmas.List.{append-nil}
 use mathlib.Core.Option as core
 use mathlib.Core.Option.{some}
@@ -23,8 +23,6 @@ use Rattle.server_visit_ledger.proofs.CellsOut.{out_lies}
 use Rattle.store_image.proofs.CellsShow.{same_bytes}
 use Rattle.server_visits.specs.Images.{AreImageBytes, CellsStand}
 use Rattle.server_session.specs.KeptCell.{KeptCell}
-use Rattle.server_session.specs.Needs.{visits_left, point_visits}
-use Rattle.server_session.specs.ControlPoints.{IsBegunAt, KeepsStatement, IsSamePhase}
 use Rattle.server_session.specs.Sits.{Sits, Runs, HasScript, HasScriptCapacity, OfStmt}
 use Rattle.server_session.specs.Steps.{Steps, StepsAlone, AmongAll, AllOut, VisitedAll, VisitsAll, items_of, items_in, image_in}
 use Rattle.server_session.specs.SessionOutput.{IsPlainAnonymousAct, plainly}
@@ -35,7 +33,7 @@ use Rattle.server_session.specs.declared.stage.ControlPoint.{ControlPoint}
 use Rattle.server_session.specs.declared.stage.ControlPoint.TheVariants.{Inside}
 use Rattle.server_session.specs.declared.stage.Stage.TheVariants.{Keeping, Answering as Answered}
 use Rattle.server_session.proofs.Alone.{then_seat, holds_at_point, lacking}
-use Rattle.server_session.proofs.Keeping.{keeping_point, lacks_alone, no_running}
+use Rattle.server_session.proofs.Keeping.{keeping_point, lacks_alone}
 use Rattle.server_session.proofs.Sitting.{stmt_found, in_statement, plain_anonymous_acts}
 
 -- ---- its seat
@@ -49,23 +47,6 @@ module _ {H : Type 0} (digest : H → List ℕ → List ℕ) (y : Seat H) (all :
 
   pub few_kept : y.images < 2
   few_kept = holds.2
-
-  pub none_runs : y.running ≡ None
-  none_runs = no_running digest a.h y.running (subst (Runs digest a.h y.running) holds.0 a.sits.runs)
-
-  -- once it is answered it needs no visit
-  pub answered_visits : (z : Seat H) (b : Answering) → z.point ≡ Inside (Answered b) → z.running ≡ y.running → visits_left z < visits_left y
-  answered_visits z b at same = subst₂ (λ (n m : ℕ). n < m)
-      (sym (ap₂ (λ (p : ControlPoint) (r : Option (Running H)). point_visits p r) at (same ∙ none_runs))) (sym (ap (λ (p : ControlPoint). point_visits p y.running) at_keeping)) (omega arith)
-
-  pub answered_stays : (z : Seat H) (b : Answering) → z.point ≡ Inside (Answered b) → z.started ≡ y.started → z.name ≡ y.name → z.text ≡ y.text → KeepsStatement y z
-  answered_stays z b at started name text = record {
-    point = subst₂ IsSamePhase (sym at_keeping) (sym at) tt;
-    begun = λ k. absurd (subst (λ (p : ControlPoint). IsBegunAt p) at k);
-    started = started;
-    name = name;
-    text = text;
-  }
 
 -- ---- nothing is kept
 

@@ -12,9 +12,6 @@ use Rattle.workload_run.specs.Figures.{amount, history_count, row_count}
 use Rattle.workload_run.specs.Reports.{inserted_in_all}
 use Rattle.workload_run.proofs.FilledRows.{as_many_ended, as_many_live, same_total}
 
-ids_of : Tables → List ℕ
-ids_of T = map (λ (t : Table). t.def.id) T
-
 -- what is counted, where each table shows what it does
 pub record Are (T : Tables) (n : ℕ) : Type 0 where
   pub rows : row_count (drop 2 (map table_rows T)) ≡ 4 * n

@@ -1,13 +1,10 @@
-use Rattle.std.proofs.Common.{ap, sym, ◌∙◌, Bor, List, filter_map, slice_get}
+use Rattle.std.proofs.Common.{ap, sym, ◌∙◌, List, filter_map, slice_get}
 use Rattle.std.proofs.lemmas.Result.{IfOk-weaker}
 use Rattle.sql_types.specs.declared.table.TableDef.{TableDef}
 use Rattle.sql_types.specs.declared.version.Version.{Version}
 use Rattle.spec_model.specs.Keys.{live_by_key}
 use Rattle.audit_asof.proofs.KeyOrder.{rows_found}
 use Rattle.audit_asof.proofs.opened_table.OpenedTableLiveVersions.in_key_order.Goals as goal
-
-abbrev seen : Bor Version → Version
-seen v = v.now
 
 pub returns : goal.returns
 returns c =
