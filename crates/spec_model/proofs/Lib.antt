@@ -1,3 +1,3 @@
 mod Classed
-mod Missing
+pub mod Missing
 mod Unknown

@@ -1,4 +1,4 @@
-mod Alterations
+pub mod Alterations
 mod Lists
 mod NameSets
 mod NewTables
