@@ -13,9 +13,10 @@ pub(crate) fn guess_place(versions: &[Version], at: EventId) -> usize
     ensures { result < length versions.now }
 {
     let last = versions.len() - 1;
-    let first_tx = versions[0].start.tx;
-    let whole = versions[last].start.tx.saturating_sub(first_tx);
-    let part = at.tx.saturating_sub(first_tx);
+    let lowest = versions[0].start;
+    let highest = versions[last].start;
+    let whole = highest.tx.saturating_sub(lowest.tx);
+    let part = at.tx.saturating_sub(lowest.tx);
     let guess = part.saturating_mul(last as u64).checked_div(whole);
     (guess.unwrap_or(0) as usize).min(last)
 }
