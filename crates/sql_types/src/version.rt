@@ -7,7 +7,7 @@ use std::marker::Model;
 /// The values of a row, one for each column.
 pub type Row = Items<Value>;
 
-/// An event. Events are ordered by the transaction and then the number. Contracts see the pair of both.
+/// The id of an event. Events are ordered by the transaction and then the number. Contracts see the pair of both.
 #[derive(Clone, Copy, Debug, PartialEq, Eq, PartialOrd, Ord)]
 pub struct EventId {
     pub tx: TxId,

@@ -19,6 +19,6 @@ returns-else-behind-gt0-clause-none c =
     (up_to_parted (λ (e : Ending). e.end) ends rises c.args.tx c.args.seq) (λ a r f called. search rules) in
     none_undone (λ (e : Ending). e.end) ends rises c.args.tx c.args.seq n within point
     (elim c.else-behind-gt0.branch [
-      | else-behind-gt0-via-then-behind-gt0+else-is_undone w ↦ λ d some. ap (λ (e : Ending). is_undone c.args.tx c.args.seq e.end) (get_or_default ends (n - 1) d (record { end = (0, 0); start = (0, 0) }) (omega (arith, some, within))) ∙ sym w.is_undone.ensures ∙ w.if-is_undone.false
+      | else-behind-gt0-via-then-behind-gt0+else-is_undone w ↦ λ d some. ap (λ (e : Ending). is_undone c.args.tx c.args.seq e.end) (get_or_default ends (n - 1) d w.index-ends-behind.result (omega (arith, some, within))) ∙ sym w.is_undone.ensures ∙ w.if-is_undone.false
       | else-behind-gt0-via-else-behind-gt0 w ↦ λ d some. absurd (omega (arith, some, w.if-behind-gt0.false))
     ])
