@@ -9,11 +9,10 @@ ghost use Rattle.spec_verify.specs.Groups.{found_cmp};
 ghost use Rattle.audit_verify.specs.Groups as spec;
 
 use crate::groups::GroupFaults;
-use crate::least::{TableEvent, event_place};
+use crate::least::{TableEvent, event_place, lesser};
 use audit_roots::lesser_root;
 use spec_verify::Place;
 use sql_types::EventId;
-use std::cmp::Ordering;
 
 /// What two groups find together, of which the first has the tables that come first.
 pub(crate) fn both(first: GroupFaults, second: GroupFaults) -> GroupFaults
@@ -62,9 +61,8 @@ fn event_at(place: Option<Place>) -> Option<TableEvent>
 fn lesser_event(a: Option<TableEvent>, b: Option<TableEvent>) -> Option<TableEvent>
     ensures { result ≡ lesser_of table_event_cmp a b }
 {
-    match (a, b) {
-        (Some(x), Some(y)) if x.cmp(&y) == Ordering::Greater => Some(y),
-        (Some(x), _) => Some(x),
-        (None, b) => b,
+    match b {
+        Some(event) => lesser(a, event),
+        None => a,
     }
 }
