@@ -62,11 +62,18 @@ fn copy_committed(alloc: Global, known: &CommittedTxs, version: &Version) -> Res
     })
 }
 
+/// Whether the event is one of a transaction that is known to be committed.
+fn is_committed(known: &CommittedTxs, event: EventId) -> bool
+    ensures { result ≡ has_in known.now event.0 }
+{
+    known.has(event.tx)
+}
+
 fn committed_end(known: &CommittedTxs, end: Option<EventId>) -> Option<EventId>
     ensures { result ≡ spec.end_committed (has_in known.now) end }
 {
     match end {
-        Some(event) if known.has(event.tx) => Some(event),
+        Some(event) if is_committed(known, event) => Some(event),
         _ => None,
     }
 }
