@@ -17,9 +17,9 @@ use Rattle.sql_value.specs.declared.sql_type.SqlType.{SqlType}
 use Rattle.sql_value.specs.Stored.{is_in_range}
 use Rattle.sql_types.specs.declared.table.IndexDef.{IndexDef}
 use Rattle.sql_types.specs.declared.table.TableDef.{TableDef}
-use Rattle.format_event.specs.Leaf.{type_bytes}
-use Rattle.format_event.specs.LeafReading.{type_at}
-use Rattle.format_event.proofs.TypeLaws.{FitsFields, type_exact, in_range_fits}
+use Rattle.spec_ledger.specs.Leaf.{type_bytes}
+use Rattle.spec_ledger.specs.LeafReading.{type_at}
+use Rattle.spec_ledger.proofs.TypeLaws.{FitsFields, type_exact, in_range_fits}
 use Rattle.spec_model.specs.Catalog.{Defs}
 use Rattle.spec_model.specs.Create.{is_long}
 use Rattle.spec_model.specs.SystemTables.{kind_code}

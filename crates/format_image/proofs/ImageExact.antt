@@ -15,11 +15,11 @@ use Rattle.base_fields.specs.Exact.{IsBytes, Exact}
 use Rattle.base_fields.proofs.FormsExact.{tx_id_exact, moment_exact, session_exact, database_exact}
 use Rattle.base_fields.proofs.Written.{u8_exact, u64_exact, some_is}
 use Rattle.base_fields.proofs.Parts.{after_exact, both_exact, depends_exact, mapped_exact, decoded_exact, listed_exact, each_exact, encode_each, FitEach, one_value, whole_sound, whole_complete}
-use Rattle.format_entry.specs.Entry.{TableRoot}
-use Rattle.format_entry.specs.EntryReading.{roots_at}
-use Rattle.format_entry.specs.Record.{record_bytes, IsRecord, record_at}
-use Rattle.format_entry.proofs.EntryExact.{FitRoots, encode_roots, roots_exact}
-use Rattle.format_entry.proofs.RecordExact.{record_exact}
+use Rattle.spec_ledger.specs.Entry.{TableRoot}
+use Rattle.spec_ledger.specs.EntryReading.{roots_at}
+use Rattle.spec_ledger.specs.Record.{record_bytes, IsRecord, record_at}
+use Rattle.spec_ledger.proofs.EntryExact.{FitRoots, encode_roots, roots_exact}
+use Rattle.spec_ledger.proofs.RecordExact.{record_exact}
 use Rattle.sql_types.specs.declared.entry.BlockRecord.{BlockRecord}
 use Rattle.sql_types.specs.declared.entry.TxEntry.{TxEntry}
 use Rattle.sql_types.specs.declared.image.Image.{Image}

@@ -8,8 +8,8 @@ use Rattle.base_fields.specs.Readers.{◌>>=◌, u8_at, u16_at, u64_at, both, ma
 use Rattle.base_fields.specs.Exact.{IsBytes, Exact, Taken}
 use Rattle.base_fields.proofs.Written.{bind_some, some_is, u8_exact, u16_exact, u64_exact}
 use Rattle.base_fields.proofs.Parts.{both_exact, mapped_exact, decoded_exact, where_exact, listed_exact, each_exact, encode_each, FitEach}
-use Rattle.format_event.specs.TypedBytes.{typed_bytes, typed_at}
-use Rattle.format_event.proofs.TypedExact.{typed_exact}
+use Rattle.spec_ledger.specs.TypedBytes.{typed_bytes, typed_at}
+use Rattle.spec_ledger.proofs.TypedExact.{typed_exact}
 use Rattle.sql_types.specs.declared.image.TableRows.{TableRows}
 use Rattle.sql_types.specs.declared.table.IndexDef.{IndexDef}
 use Rattle.sql_types.specs.declared.table.TableDef.{TableDef}

@@ -6,7 +6,7 @@ use Rattle.sql_value.specs.Stored.{is_in_range}
 use Rattle.sql_value.specs.declared.column.ColumnDef.{ColumnDef}
 use Rattle.sql_types.specs.declared.table.IndexDef.{IndexDef}
 use Rattle.sql_types.specs.declared.table.TableDef.{TableDef}
-use Rattle.format_event.specs.Leaf.{type_bytes}
+use Rattle.spec_ledger.specs.Leaf.{type_bytes}
 use Rattle.spec_model.specs.Catalog.{Defs}
 use Rattle.spec_model.specs.SystemTables.{kind_code}
 use Rattle.format_image.specs.declared.version.ImageVersion.{ImageVersion}

@@ -6,8 +6,8 @@ use Rattle.base_types.specs.Ids.{is_tx_id}
 use Rattle.base_types.specs.Moment.{is_moment}
 use Rattle.base_types.specs.SessionName.{is_session_name}
 use Rattle.base_fields.specs.Fields.{u8_field, u64_field, short_field}
-use Rattle.format_entry.specs.Entry.{roots_bytes, IsRoot, tables_rise}
-use Rattle.format_entry.specs.Record.{record_bytes, IsRecord}
+use Rattle.spec_ledger.specs.Entry.{roots_bytes, IsRoot, tables_rise}
+use Rattle.spec_ledger.specs.Record.{record_bytes, IsRecord}
 use Rattle.sql_types.specs.declared.entry.BlockRecord.{BlockRecord}
 use Rattle.sql_types.specs.declared.entry.TxEntry.{TxEntry}
 use Rattle.sql_types.specs.declared.image.Image.{Image}

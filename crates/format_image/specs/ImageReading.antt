@@ -8,11 +8,11 @@ use Rattle.sql_value.specs.declared.column.ColumnDef.{ColumnDef}
 use Rattle.sql_value.specs.declared.column.TableKind.{TableKind}
 use Rattle.sql_value.specs.declared.column.TableKind.TheVariants.{AppendOnly, Updatable}
 use Rattle.sql_value.specs.declared.sql_type.SqlType.{SqlType}
-use Rattle.format_entry.specs.Entry.{TableRoot}
-use Rattle.format_entry.specs.EntryReading.{roots_at}
-use Rattle.format_entry.specs.Record.{record_at}
-use Rattle.format_event.specs.LeafReading.{type_at}
-use Rattle.format_event.specs.TypedBytes.{typed_at}
+use Rattle.spec_ledger.specs.Entry.{TableRoot}
+use Rattle.spec_ledger.specs.EntryReading.{roots_at}
+use Rattle.spec_ledger.specs.Record.{record_at}
+use Rattle.spec_ledger.specs.LeafReading.{type_at}
+use Rattle.spec_ledger.specs.TypedBytes.{typed_at}
 use Rattle.sql_types.specs.declared.entry.BlockRecord.{BlockRecord}
 use Rattle.sql_types.specs.declared.entry.TxEntry.{TxEntry}
 use Rattle.sql_types.specs.declared.image.Image.{Image}

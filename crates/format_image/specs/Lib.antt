@@ -9,5 +9,5 @@ pub mod Walk
 pub use Rattle.spec_ledger.specs.Blocks
 pub use Rattle.spec_ledger.specs.Entries
 pub use Rattle.spec_ledger.specs.Ledger
-pub use Rattle.format_event.specs.Leaf
-pub use Rattle.format_event.specs.TypedBytes
+pub use Rattle.spec_ledger.specs.Leaf
+pub use Rattle.spec_ledger.specs.TypedBytes

@@ -2,8 +2,8 @@
 use Rattle.std.specs.Prelude.{ℕ, ◌≡◌, ◌<◌, ◌^◌, ◌==◌, ◌&&◌, ◌||◌, nat_lt, Bool, true, List, [], ◌∷◌, ◌++◌, length, flat_map, Option, Some, None}
 use Rattle.std.specs.List.{AllByRecursion}
 use Rattle.base_fields.specs.Fields.{u8_field, u16_field, u64_field}
-use Rattle.format_event.specs.TypedBytes.{typed_bytes}
-pub use Rattle.format_event.specs.TypedBytes.{IsValue, AreValues}
+use Rattle.spec_ledger.specs.TypedBytes.{typed_bytes}
+pub use Rattle.spec_ledger.specs.TypedBytes.{IsValue, AreValues}
 use Rattle.sql_types.specs.declared.image.TableRows.{TableRows}
 use Rattle.sql_types.specs.declared.table.IndexDef.{IndexDef}
 use Rattle.sql_types.specs.declared.table.TableDef.{TableDef}

@@ -11,7 +11,7 @@ use crate::names::{has_its_history, is_proper_name};
 use crate::version::ImageVersion;
 use base_fields::{ReadError, short_at, u8_at, u16_at, u32_at};
 use base_types::{Items, Memory, Name};
-use format_event::type_at;
+use spec_ledger::type_at;
 use sql_types::{IndexDef, TableDef};
 use sql_value::{ColumnDef, SqlType, TableKind};
 use std::alloc::Global;

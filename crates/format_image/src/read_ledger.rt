@@ -3,7 +3,7 @@
 ghost use Rattle.std.specs.Prelude.{◌≡◌, ◌<◌, ◌≤◌, ◌+◌, ◌^◌, length};
 ghost use Rattle.base_fields.specs.Readers.{times};
 ghost use Rattle.base_fields.specs.Reading.{Finds, ReadsAs};
-ghost use Rattle.format_entry.specs.Record.{record_at};
+ghost use Rattle.spec_ledger.specs.Record.{record_at};
 ghost use Rattle.spec_ledger.specs.Entries.{at_place};
 ghost use Rattle.format_image.specs.ImageBytes.{sizes_of};
 ghost use Rattle.format_image.specs.ImageReading.{blocks_at, placeless_at, placed_times, ledger_at};
@@ -11,7 +11,7 @@ ghost use Rattle.format_image.specs.Walk.{Spot, free_spot};
 
 use base_fields::{ReadError, hash_at, literal, moment_at, session_at, tx_id_at, u64_at};
 use base_types::{Items, first_of};
-use format_entry::roots_at;
+use spec_ledger::roots_at;
 use sql_types::{BlockRecord, TxEntry};
 use std::alloc::Global;
 
@@ -54,7 +54,7 @@ fn some_blocks(
     Ok((blocks, rest))
 }
 
-#[tactic(auto, unfolding(format_entry::specs::Record::record_at))]
+#[tactic(auto, unfolding(spec_ledger::specs::Record::record_at))]
 fn record_at(bytes: &[u8]) -> Result<(BlockRecord, &[u8]), ReadError>
     ensures { Finds (λ x. (x.0, x.1.now)) result (record_at bytes.now) }
 {

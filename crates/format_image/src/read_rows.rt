@@ -8,7 +8,7 @@ ghost use Rattle.format_image.specs.ImageReading.{behind, value_behind, value_at
 
 use base_fields::{ReadError, u8_at, u16_at, u64_at};
 use base_types::{Items, Memory, TxId, first_of};
-use format_event::typed_at;
+use spec_ledger::typed_at;
 use sql_types::{EventId, IndexDef, IndexRow, TableDef, TableRows, TypedValue, Version};
 use std::alloc::Global;
 

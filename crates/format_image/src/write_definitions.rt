@@ -9,7 +9,7 @@ ghost use Rattle.format_image.specs.DefBytes.{flag, dropped_bytes, column_bytes,
 use crate::version::ImageVersion;
 use base_fields::{put_short, put_u8, put_u16, put_u32};
 use base_types::{Memory, first_of};
-use format_event::put_type;
+use spec_ledger::put_type;
 use sql_types::{IndexDef, TableDef};
 use sql_value::{ColumnDef, TableKind};
 

@@ -5,7 +5,7 @@ ghost use Rattle.format_image.specs.RowBytes.{value_bytes, values_bytes, IsValue
 
 use base_fields::{put_u8, put_u16, put_u64};
 use base_types::{Items, Memory};
-use format_event::put_typed;
+use spec_ledger::put_typed;
 use sql_types::{EventId, IndexRow, TableRows, TypedValue, Version};
 
 /// Appends the rows of each of these tables.

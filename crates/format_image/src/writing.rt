@@ -1,7 +1,7 @@
 //! Writing the bytes of an image.
 
 ghost use Rattle.std.specs.Prelude.{All, ◌≡◌, ◌++◌, IfOk, OnOk, flat_map};
-ghost use Rattle.format_entry.specs.Record.{record_bytes};
+ghost use Rattle.spec_ledger.specs.Record.{record_bytes};
 ghost use Rattle.format_image.specs.ImageBytes.{blocks_bytes, placeless_bytes, entries_bytes, IsPlaceless, tables_bytes, bytes_in, image_bytes, image_bytes_1, IsImage, IsImage1};
 ghost use Rattle.format_image.specs.Tables.{defs_in};
 
@@ -10,7 +10,7 @@ use crate::write_definitions::put_defs;
 use crate::write_rows::put_tables;
 use base_fields::{put_short, put_u8, put_u64};
 use base_types::Memory;
-use format_entry::{put_roots, record_bytes};
+use spec_ledger::{put_roots, record_bytes};
 use sql_types::{BlockRecord, Image, TxEntry};
 use std::alloc::Global;
 

@@ -10,7 +10,7 @@ use Rattle.sql_types.specs.declared.table.TableDef.{TableDef}
 use Rattle.spec_model.specs.Lists.{numbered}
 use Rattle.spec_model.specs.Rows.{Row, number}
 use Rattle.spec_model.specs.SystemTables.{table_row, column_row, index_row}
-use Rattle.law_frame.proofs.Alls.{all_weaker}
+use Rattle.law_journal.proofs.Alls.{all_weaker}
 use Rattle.law_catalog_rows.specs.Encoded.{is_about, about}
 use Rattle.law_catalog_rows.proofs.Orders.{filter_all, filter_none}
 

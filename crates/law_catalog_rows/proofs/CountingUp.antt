@@ -12,7 +12,7 @@ use Rattle.std.specs.Prelude.{◌&&◌, ◌<ℤ◌, ◌≤ℤ◌, not, max, if�
 use Rattle.std.specs.declared.cmp.Ordering.{Ordering}
 use Rattle.std.specs.declared.cmp.Ordering.TheVariants.{Less, Equal, Greater}
 use Rattle.spec_model.specs.Lists.{inserted, sorted, greatest}
-use Rattle.law_frame.proofs.SameKeys.{and_true}
+use Rattle.law_journal.proofs.SameKeys.{and_true}
 use Rattle.law_catalog_rows.specs.Changes.{counts_up}
 use Rattle.law_catalog_rows.proofs.Orders.{along_permutation}
 

@@ -10,7 +10,7 @@ use Rattle.spec_model.specs.Lists.{has_name, numbered, is_among, without}
 use Rattle.spec_model.specs.LiveColumns.{live_columns}
 use Rattle.spec_model.specs.Checks.{is_declared}
 use Rattle.spec_model.specs.Create.{names_of}
-use Rattle.law_frame.proofs.SameKeys.{and_true}
+use Rattle.law_journal.proofs.SameKeys.{and_true}
 use Rattle.law_catalog_rows.proofs.Tests.{or_second, or_follows}
 
 -- ---- what is found

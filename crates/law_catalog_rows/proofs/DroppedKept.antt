@@ -11,7 +11,7 @@ use Rattle.sql_types.specs.declared.table.TableDef.{TableDef}
 use Rattle.spec_model.specs.Lists.{numbered, inserted, is_among, rise_within}
 use Rattle.spec_model.specs.LiveColumns.{is_dropped}
 use Rattle.spec_model.specs.Alter.{column_to_add, with_added, dropped_column, with_dropped}
-use Rattle.law_frame.proofs.SameKeys.{or_false, and_true}
+use Rattle.law_journal.proofs.SameKeys.{or_false, and_true}
 use Rattle.law_catalog_rows.specs.IsEncodableDef.{dropped_are_right}
 use Rattle.law_catalog_rows.proofs.Edited.{place_below}
 use Rattle.law_catalog_rows.proofs.Tests.{or_second}

@@ -3,7 +3,7 @@ use Rattle.std.proofs.Common.{◌≡◌, ◌<◌, ℕ, zero, suc, refl, ◌∙�
 use Rattle.std.proofs.lemmas.List.Folds.{list_any-append}
 use Rattle.std.specs.Prelude.{◌||◌, slice_get, slice_set}
 use Rattle.std.specs.List.{AllByRecursion, list_any}
-use Rattle.law_frame.proofs.SameKeys.{or_false}
+use Rattle.law_journal.proofs.SameKeys.{or_false}
 use Rattle.law_catalog_rows.proofs.Tests.{both_false}
 
 pub all_at : {A : Type 0} (P : A → Type 0) (xs : List A) (i : ℕ) (x : A) → slice_get xs i ≡ Some x → AllByRecursion P xs → P x

@@ -15,7 +15,7 @@ use Rattle.spec_model.specs.Alter.{Altered, alteration, table_drop}
 use Rattle.spec_model.specs.Effect.{effect, table_effect, index_effect, altered_effect, redefined, with_system_rows, table_start, column_starts, index_starts}
 use Rattle.spec_model.specs.Agreement.{IdsFrom}
 use Rattle.spec_model.specs.Reach.{creates}
-use Rattle.law_frame.proofs.Definitions.{same_defs, defs_after}
+use Rattle.law_journal.proofs.Definitions.{same_defs, defs_after}
 use Rattle.law_journal.proofs.Altered.{by_alter, by_drop}
 use Rattle.law_journal.proofs.DefLists.{defs_append, redef, defs_redefined}
 use Rattle.law_catalog_rows.specs.Formed.{AllFormed}

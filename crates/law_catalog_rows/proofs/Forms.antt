@@ -22,11 +22,11 @@ use Rattle.spec_model.specs.Checks.{refused_if, is_standing, is_declared}
 use Rattle.spec_model.specs.LiveColumns.{live_columns}
 use Rattle.spec_model.specs.Create.{names_of, table_names, all_names, is_ledger_name, history_of, key_position_of, keyed, table_def, has_bad_name, exceeds_limit, has_null_key, next_id, create_check, index_def, index_check_in, index_check, ordinal_at, ordinals_of, with_index}
 use Rattle.spec_model.specs.Agreement.{IdsFrom}
-use Rattle.law_frame.proofs.Alls.{all_weaker, all_both, all_append, all_map}
-use Rattle.law_frame.proofs.BaseTables.{base_alone, found_is_users}
-use Rattle.law_frame.proofs.Checked.{Led, led}
-use Rattle.law_frame.proofs.NamedPart.{was_found}
-use Rattle.law_frame.proofs.SameKeys.{or_false, and_true}
+use Rattle.law_journal.proofs.Alls.{all_weaker, all_both, all_append, all_map}
+use Rattle.law_journal.proofs.BaseTables.{base_alone, found_is_users}
+use Rattle.law_journal.proofs.Checked.{Led, led}
+use Rattle.law_journal.proofs.NamedPart.{was_found}
+use Rattle.law_journal.proofs.SameKeys.{or_false, and_true}
 use Rattle.spec_model.specs.Columns.{place_of}
 use Rattle.spec_model.specs.Refusals.{or_refused}
 use Rattle.std.specs.Str.{bytes_eq}

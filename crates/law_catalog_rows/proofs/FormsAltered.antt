@@ -19,9 +19,9 @@ use Rattle.spec_model.specs.Catalog.{NamedPart, Tables, defs_of, versions_of}
 use Rattle.spec_model.specs.Create.{names_of, table_names, is_long, is_ledger_name}
 use Rattle.spec_model.specs.Alter.{column_to_add, with_added, dropped_column, dropped_column_name, with_dropped, dropped_history_name, dropped_table, WithColumn, alter_check, drop_check}
 use Rattle.spec_model.specs.Agreement.{IdsFrom}
-use Rattle.law_frame.proofs.Alls.{all_weaker, all_append}
-use Rattle.law_frame.proofs.Alterations.{Stands, Added, added, ColumnDropped, column_dropped, TableDropped, table_dropped, added_alters, dropped_alters}
-use Rattle.law_frame.proofs.BaseTables.{found_is_users}
+use Rattle.law_journal.proofs.Alls.{all_weaker, all_append}
+use Rattle.law_journal.proofs.Alterations.{Stands, Added, added, ColumnDropped, column_dropped, TableDropped, table_dropped, added_alters, dropped_alters}
+use Rattle.law_journal.proofs.BaseTables.{found_is_users}
 use Rattle.law_journal.specs.Fine.{OfTable}
 use Rattle.law_journal.proofs.Created.{name_short, names_short}
 use Rattle.law_journal.proofs.DefLists.{redef}

@@ -9,7 +9,7 @@ use Rattle.spec_model.specs.Lists.{has_name}
 use Rattle.spec_model.specs.Catalog.{Defs}
 use Rattle.spec_model.specs.Create.{table_names, all_names}
 use Rattle.spec_model.specs.Agreement.{IdsFrom}
-use Rattle.law_frame.proofs.SameKeys.{or_false}
+use Rattle.law_journal.proofs.SameKeys.{or_false}
 use Rattle.law_journal.proofs.DefLists.{redef}
 use Rattle.law_catalog_rows.specs.Formed.{AllFresh}
 use Rattle.law_catalog_rows.proofs.Forms.{none_behind}

@@ -18,7 +18,7 @@ use Rattle.spec_model.specs.LiveColumns.{is_dropped}
 use Rattle.spec_model.specs.Lists.{inserted, numbered, is_among}
 use Rattle.spec_model.specs.Rows.{Row}
 use Rattle.spec_model.specs.SystemTables.{index_row, index_rows}
-use Rattle.law_frame.proofs.Alls.{all_weaker, all_append}
+use Rattle.law_journal.proofs.Alls.{all_weaker, all_append}
 use Rattle.law_catalog_rows.specs.Encoded.{rows_of_indexes, column_row_at, latest_column_row, latest_item_rows}
 use Rattle.law_catalog_rows.specs.Latest.{number_at, same_number}
 use Rattle.law_catalog_rows.proofs.CountingUp.{is_number, other_number}

@@ -13,7 +13,7 @@ use Rattle.spec_model.specs.Runs.{Sound}
 use Rattle.spec_model.specs.Script.{Reading}
 use Rattle.spec_model.specs.SystemTables.{first_tables, tables_id, tables_def, columns_def}
 use Rattle.spec_model.specs.Journals.{serial, IsLegal}
-use Rattle.law_frame.proofs.StepByStep.{Any}
+use Rattle.law_journal.proofs.StepByStep.{Any}
 use Rattle.law_journal.specs.AppendOnly.{AllKeepRows}
 use Rattle.law_journal.specs.Described.{Described}
 use Rattle.law_journal.specs.Fine.{OfTable}

@@ -11,9 +11,9 @@ use Rattle.spec_model.specs.Runs.{Sound}
 use Rattle.spec_model.specs.Script.{Reading, State, alone, by_statement, start, text_step, script_from, script}
 use Rattle.spec_model.specs.SystemTables.{first_tables}
 use Rattle.spec_model.specs.Journals.{IsOther, after_item, serial_from, serial, IsNext, IsLegalFrom, IsLegal}
-use Rattle.law_frame.proofs.OtherTransactions.{others_sound}
-use Rattle.law_frame.proofs.SoundStatements.{statement_sound, first_sound}
-use Rattle.law_frame.proofs.StepByStep.{OnText, Throughout, throughout, script_keeps_where}
+use Rattle.law_journal.proofs.OtherTransactions.{others_sound}
+use Rattle.law_journal.proofs.SoundStatements.{statement_sound, first_sound}
+use Rattle.law_journal.proofs.StepByStep.{OnText, Throughout, throughout, script_keeps_where}
 
 first_part : (P : JournalItem → Type 0) (xs ys : List JournalItem) → AllByRecursion P (xs ++ ys) → AllByRecursion P xs
 first_part P [] ys h = tt

@@ -10,7 +10,7 @@ use Rattle.sql_value.specs.declared.column.ColumnDef.{ColumnDef}
 use Rattle.spec_model.specs.Lists.{has_name, repeats, is_among}
 use Rattle.spec_model.specs.Checks.{is_declared}
 use Rattle.spec_model.specs.Create.{names_of, ordinal_at, key_position_of}
-use Rattle.law_frame.proofs.SameKeys.{or_false, and_true}
+use Rattle.law_journal.proofs.SameKeys.{or_false, and_true}
 use Rattle.law_catalog_rows.specs.IsEncodableDef.{is_between, greatest, positions_of, are_key_positions}
 use Rattle.law_catalog_rows.specs.Formed.{HasKeyPositions}
 use Rattle.law_catalog_rows.proofs.Declared.{declared_is}

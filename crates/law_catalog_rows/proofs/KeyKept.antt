@@ -7,8 +7,8 @@ use Rattle.sql_value.specs.declared.column.ColumnDef.{ColumnDef}
 use Rattle.spec_model.specs.Lists.{has_name}
 use Rattle.spec_model.specs.Checks.{is_declared}
 use Rattle.spec_model.specs.Create.{names_of, ordinal_at, key_position_of}
-use Rattle.law_frame.proofs.Alls.{all_append}
-use Rattle.law_frame.proofs.SameKeys.{or_false, and_true}
+use Rattle.law_journal.proofs.Alls.{all_append}
+use Rattle.law_journal.proofs.SameKeys.{or_false, and_true}
 use Rattle.law_catalog_rows.specs.Formed.{HasKeyPositions}
 use Rattle.law_catalog_rows.proofs.Declared.{found_some, declared_is}
 use Rattle.law_catalog_rows.proofs.Edited.{all_at, all_set}

@@ -8,7 +8,7 @@ use Rattle.std.specs.Str.{bytes_eq}
 use Rattle.sql_value.specs.declared.column.ColumnDef.{ColumnDef}
 use Rattle.spec_model.specs.Lists.{has_name, repeats, is_among}
 use Rattle.spec_model.specs.Create.{names_of, ordinal_at, key_position_of}
-use Rattle.law_frame.proofs.SameKeys.{or_false}
+use Rattle.law_journal.proofs.SameKeys.{or_false}
 use Rattle.law_catalog_rows.specs.IsEncodableDef.{number_repeats, positions_of}
 use Rattle.law_catalog_rows.proofs.Ordinals.{same_bytes, own_bytes}
 

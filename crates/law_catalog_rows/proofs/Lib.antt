@@ -33,4 +33,4 @@ mod RowsAfter
 mod Tests
 mod Unchanged
 mod WrittenAfter
-pub use Rattle.law_frame.proofs.Alls
+pub use Rattle.law_journal.proofs.Alls

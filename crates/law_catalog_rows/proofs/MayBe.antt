@@ -10,7 +10,7 @@ use Rattle.sql_value.specs.declared.column.TableKind.TheVariants.{AppendOnly, Up
 use Rattle.sql_types.specs.declared.table.TableDef.{TableDef}
 use Rattle.sql_types.specs.declared.table.IndexDef.{IndexDef}
 use Rattle.spec_model.specs.Create.{is_ledger_name, key_position_of}
-use Rattle.law_frame.proofs.SameKeys.{or_false}
+use Rattle.law_journal.proofs.SameKeys.{or_false}
 use Rattle.law_catalog_rows.specs.Formed.{FormedColumn, FormedIndex, HistoryOf, Formed}
 use Rattle.law_catalog_rows.specs.IsEncodableDef.{is_proper_name, is_between, is_encodable_column, is_encodable_index, has_its_history, is_encodable_def}
 use Rattle.law_catalog_rows.specs.Written.{IsWritten, HistoryWritten, Written}

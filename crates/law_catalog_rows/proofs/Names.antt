@@ -6,7 +6,7 @@ use Rattle.std.specs.Bool.{Decides}
 use Rattle.std.specs.List.{list_any}
 use Rattle.std.specs.Str.{bytes_eq}
 use Rattle.spec_model.specs.Lists.{has_name}
-use Rattle.law_frame.proofs.SameKeys.{or_false}
+use Rattle.law_journal.proofs.SameKeys.{or_false}
 use Rattle.law_catalog_rows.proofs.Tests.{both_false}
 
 pub other_way : (a b : List ℕ) → bytes_eq a b ≡ false → bytes_eq b a ≡ false

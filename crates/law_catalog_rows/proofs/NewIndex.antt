@@ -16,7 +16,7 @@ use Rattle.spec_model.specs.Lists.{numbered}
 use Rattle.spec_model.specs.Rows.{Row}
 use Rattle.spec_model.specs.SystemTables.{index_row, index_rows}
 use Rattle.spec_model.specs.Create.{with_index}
-use Rattle.law_frame.proofs.Alls.{all_append, all_filter, all_weaker}
+use Rattle.law_journal.proofs.Alls.{all_append, all_filter, all_weaker}
 use Rattle.law_catalog_rows.specs.Changes.{is_first, is_of_index, later_changes, changes_are_right, rows_before, follows, items_follow}
 use Rattle.law_catalog_rows.specs.Encoded.{rows_of_indexes, latest_table_row, latest_column_row, latest_item_rows, about, EncodeDef}
 use Rattle.law_catalog_rows.specs.Latest.{number_at, same_number, change_of, is_past, is_latest, latest, without_change, latest_said}

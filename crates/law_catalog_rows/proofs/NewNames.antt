@@ -18,7 +18,7 @@ use Rattle.spec_model.specs.Catalog.{Defs}
 use Rattle.spec_model.specs.SystemTables.{tables_columns, history_value, tables_def, columns_def}
 use Rattle.spec_model.specs.Create.{is_name, table_names, all_names}
 use Rattle.spec_model.specs.Agreement.{IdsFrom}
-use Rattle.law_frame.proofs.SameKeys.{or_false}
+use Rattle.law_journal.proofs.SameKeys.{or_false}
 use Rattle.law_journal.specs.Described.{IsTableKey}
 use Rattle.law_catalog_rows.specs.Encoded.{live_rows, kind_in_row, latest_table_row, is_about, about, IsAmong}
 use Rattle.law_catalog_rows.specs.Formed.{HistoryOf, Formed, AllFresh}

@@ -7,7 +7,7 @@ use Rattle.sql_types.specs.declared.table.TableDef.{TableDef}
 use Rattle.sql_types.specs.declared.table.IndexDef.{IndexDef}
 use Rattle.spec_model.specs.Rows.{Row}
 use Rattle.spec_model.specs.SystemTables.{table_row, column_rows}
-use Rattle.law_frame.proofs.Alls.{all_weaker}
+use Rattle.law_journal.proofs.Alls.{all_weaker}
 use Rattle.law_catalog_rows.specs.Changes.{changes_are_right, items_follow}
 use Rattle.law_catalog_rows.specs.Encoded.{item_rows, rows_of_indexes, latest_table_row, latest_item_rows, about, EncodeDef}
 use Rattle.law_catalog_rows.specs.Latest.{latest_said}

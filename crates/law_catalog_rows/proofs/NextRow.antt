@@ -21,7 +21,7 @@ use Rattle.spec_model.specs.LiveColumns.{is_dropped}
 use Rattle.spec_model.specs.Lists.{greatest}
 use Rattle.spec_model.specs.Rows.{Row, values_of, live}
 use Rattle.spec_model.specs.SystemTables.{column_row_with, changed_table_row, changed_column_row}
-use Rattle.law_frame.proofs.SameKeys.{and_true}
+use Rattle.law_journal.proofs.SameKeys.{and_true}
 use Rattle.law_catalog_rows.specs.Changes.{same_type, position_in, is_dropped as says_dropped, position_before, comes_before, rows_before, follows, items_follow, later_changes, changes_are_right}
 use Rattle.law_catalog_rows.specs.Encoded.{live_rows, is_about, about, latest_table_row, latest_item_rows, position_in_row, EncodeDef}
 use Rattle.law_catalog_rows.specs.Latest.{number_in, number_at, same_number, change_of, is_past, without_change, latest_said}

@@ -12,8 +12,8 @@ use Rattle.std.specs.Prelude.{◌==◌, ◌&&◌, ◌||◌, ◌⊎◌, ◌<ℤ�
 use Rattle.sql_value.specs.declared.value.Value.TheVariants.{Null}
 use Rattle.spec_model.specs.Lists.{sorted}
 use Rattle.spec_model.specs.Rows.{Row, number}
-use Rattle.law_frame.proofs.Alls.{all_filter}
-use Rattle.law_frame.proofs.SameKeys.{and_true, or_false}
+use Rattle.law_journal.proofs.Alls.{all_filter}
+use Rattle.law_journal.proofs.SameKeys.{and_true, or_false}
 use Rattle.law_catalog_rows.specs.Changes.{counts_up, is_first, later_changes, is_of_index, changes_are_right, is_dropped, comes_before, rows_before, follows, items_follow}
 use Rattle.law_catalog_rows.specs.Latest.{number_in, number_at, same_number, change_of, is_past, is_latest, latest, without_change, latest_said}
 use Rattle.law_catalog_rows.proofs.AnyOrder.{three_true, all_three}

@@ -12,7 +12,7 @@ use Rattle.spec_model.specs.Lists.{has_name, repeats, is_among}
 use Rattle.spec_model.specs.Columns.{place_of}
 use Rattle.spec_model.specs.Checks.{is_declared}
 use Rattle.spec_model.specs.Create.{ordinal_at, ordinals_of}
-use Rattle.law_frame.proofs.SameKeys.{or_false, and_true}
+use Rattle.law_journal.proofs.SameKeys.{or_false, and_true}
 use Rattle.law_catalog_rows.specs.IsEncodableDef.{number_repeats}
 
 pub same_bytes : (a b : List ℕ) → bytes_eq a b ≡ true → a ≡ b

@@ -14,8 +14,8 @@ use Rattle.sql_value.specs.declared.value.Value.TheVariants.{Null, Num, Text, By
 use Rattle.spec_model.specs.Rows.{Row}
 use Rattle.spec_model.specs.Keys.{same_key}
 use Rattle.spec_model.specs.Catalog.{Defs}
-use Rattle.law_frame.proofs.Alls.{all_append}
-use Rattle.law_frame.proofs.SameKeys.{same_itself}
+use Rattle.law_journal.proofs.Alls.{all_append}
+use Rattle.law_journal.proofs.SameKeys.{same_itself}
 use Rattle.law_catalog_rows.specs.Least.{least}
 use Rattle.law_catalog_rows.specs.Encoded.{latest_table_row, latest_item_rows, is_about, about, IsAmong, EncodeDef, RowsEncode}
 use Rattle.law_catalog_rows.specs.Latest.{latest, latest_said}

@@ -34,11 +34,11 @@ use Rattle.spec_model.specs.SystemTables.{tables_id, columns_id, tables_columns,
 use Rattle.spec_model.specs.Create.{table_def, next_id, create_check, index_check, with_index}
 use Rattle.spec_model.specs.Effect.{effect, done, row_effect, shown, query_rows, query_effect, table_start, column_starts, table_effect, with_system_rows, redefined, index_effect, altered_effect}
 use Rattle.spec_model.specs.Agreement.{IdsFrom}
-use Rattle.law_frame.proofs.Alls.{all_weaker}
-use Rattle.law_frame.proofs.Alterations.{Stands, Added, added, ColumnDropped, column_dropped, TableDropped, table_dropped}
-use Rattle.law_frame.proofs.BaseTables.{found_is_users, users_table}
-use Rattle.law_frame.proofs.Definitions.{same_defs}
-use Rattle.law_frame.proofs.SameKeys.{and_true}
+use Rattle.law_journal.proofs.Alls.{all_weaker}
+use Rattle.law_journal.proofs.Alterations.{Stands, Added, added, ColumnDropped, column_dropped, TableDropped, table_dropped}
+use Rattle.law_journal.proofs.BaseTables.{found_is_users, users_table}
+use Rattle.law_journal.proofs.Definitions.{same_defs}
+use Rattle.law_journal.proofs.SameKeys.{and_true}
 use Rattle.law_journal.specs.AppendOnly.{AllKeepRows}
 use Rattle.law_journal.specs.Fine.{OfTable}
 use Rattle.law_journal.proofs.Altered.{by_alter, by_drop}

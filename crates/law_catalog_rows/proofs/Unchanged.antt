@@ -14,7 +14,7 @@ use Rattle.sql_types.specs.declared.table.TableDef.{TableDef}
 use Rattle.spec_model.specs.Lists.{numbered}
 use Rattle.spec_model.specs.Rows.{Row, number}
 use Rattle.spec_model.specs.SystemTables.{table_row, column_row, column_rows, index_row, index_rows}
-use Rattle.law_frame.proofs.Alls.{all_append, all_weaker}
+use Rattle.law_journal.proofs.Alls.{all_append, all_weaker}
 use Rattle.law_catalog_rows.specs.Changes.{is_first, later_changes, is_of_index, changes_are_right, is_dropped, follows, items_follow}
 use Rattle.law_catalog_rows.specs.Encoded.{rows_of_indexes, item_rows, latest_table_row, latest_column_row, latest_item_rows}
 use Rattle.law_catalog_rows.specs.Latest.{same_number, change_of, is_past, is_latest, latest, without_change, latest_said}

@@ -29,11 +29,11 @@ use Rattle.spec_model.specs.Alter.{column_to_add, with_added, dropped_name, drop
 use Rattle.spec_model.specs.Effect.{effect, table_effect, index_effect, altered_effect, table_start, column_starts, index_starts, with_system_rows}
 use Rattle.spec_model.specs.Agreement.{IdsFrom}
 use Rattle.spec_model.specs.Reach.{creates}
-use Rattle.law_frame.proofs.Alls.{all_append, all_map}
-use Rattle.law_frame.proofs.Alterations.{Stands, Added, added, ColumnDropped, column_dropped, TableDropped, table_dropped}
-use Rattle.law_frame.proofs.BaseTables.{found_is_users}
-use Rattle.law_frame.proofs.Definitions.{defs_after}
-use Rattle.law_frame.proofs.SameKeys.{and_true}
+use Rattle.law_journal.proofs.Alls.{all_append, all_map}
+use Rattle.law_journal.proofs.Alterations.{Stands, Added, added, ColumnDropped, column_dropped, TableDropped, table_dropped}
+use Rattle.law_journal.proofs.BaseTables.{found_is_users}
+use Rattle.law_journal.proofs.Definitions.{defs_after}
+use Rattle.law_journal.proofs.SameKeys.{and_true}
 use Rattle.law_journal.specs.Fine.{OfTable}
 use Rattle.law_journal.proofs.Altered.{by_alter, by_drop}
 use Rattle.law_journal.proofs.Created.{indexed}

@@ -1,1 +1,11 @@
 pub mod Alters
+pub use Rattle.spec_model.specs.Catalog
+pub use Rattle.spec_model.specs.Events
+pub use Rattle.spec_model.specs.Holds
+pub use Rattle.spec_model.specs.InTheWay
+pub use Rattle.spec_model.specs.Journals
+pub use Rattle.spec_model.specs.Limits
+pub use Rattle.spec_model.specs.Locks
+pub use Rattle.spec_model.specs.Replies
+pub use Rattle.spec_model.specs.Script
+pub use Rattle.spec_model.specs.SystemTables

@@ -23,3 +23,13 @@ pub mod Tables
 pub mod Taken
 mod Units
 pub mod Values
+pub use Rattle.law_frame.proofs.Alls
+pub use Rattle.law_frame.proofs.Alterations
+pub use Rattle.law_frame.proofs.BaseTables
+pub use Rattle.law_frame.proofs.Checked
+pub use Rattle.law_frame.proofs.Definitions
+pub use Rattle.law_frame.proofs.NamedPart
+pub use Rattle.law_frame.proofs.OtherTransactions
+pub use Rattle.law_frame.proofs.SameKeys
+pub use Rattle.law_frame.proofs.SoundStatements
+pub use Rattle.law_frame.proofs.StepByStep

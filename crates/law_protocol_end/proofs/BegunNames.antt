@@ -11,13 +11,13 @@ use Rattle.spec_history.specs.Sessions.{SessionState, acted, gone, runs, unborn}
 use Rattle.spec_history.specs.Transcripts.{Transcript}
 use Rattle.spec_history.specs.Worlds.{World, first, run, step}
 use Rattle.law_history.proofs.Names.{Named, keeps_name}
-use Rattle.spec_protocol.specs.AtTheEnd.{AreWritten}
-use Rattle.spec_protocol.specs.Cells.{Cell}
-use Rattle.spec_protocol.specs.AnonymousActs.{AnonymousAct, anonymous_act, did}
-use Rattle.spec_protocol.specs.Follows.{BeginsNext, BeginInTurn, names_begun}
-use Rattle.spec_protocol.specs.Seats.{SeatState}
-use Rattle.spec_protocol.specs.Server.{Server}
-use Rattle.spec_protocol.specs.StandTogether.{History, Stands}
+use Rattle.law_protocol_steps.specs.AtTheEnd.{AreWritten}
+use Rattle.law_protocol_steps.specs.Cells.{Cell}
+use Rattle.law_protocol_steps.specs.AnonymousActs.{AnonymousAct, anonymous_act, did}
+use Rattle.law_protocol_steps.specs.Follows.{BeginsNext, BeginInTurn, names_begun}
+use Rattle.law_protocol_steps.specs.Seats.{SeatState}
+use Rattle.law_protocol_steps.specs.Server.{Server}
+use Rattle.law_protocol_steps.specs.StandTogether.{History, Stands}
 use Rattle.law_protocol_steps.proofs.AnonymousActs.{at_after}
 
 -- ---- lists by place

@@ -10,15 +10,15 @@ use Rattle.spec_history.specs.Serial.{Differ}
 use Rattle.spec_history.specs.Transactions.{listed}
 use Rattle.spec_history.specs.Acts.{Act, of, marked}
 use Rattle.spec_history.proofs.Trace.{each_append, each_weaker}
-use Rattle.spec_protocol.specs.Server.{Server}
-use Rattle.spec_protocol.specs.Cells.{LedgerCell, Cell}
-use Rattle.spec_protocol.specs.Contents.{contents, known}
-use Rattle.spec_protocol.specs.OpenOnes.{HasOpen}
-use Rattle.spec_protocol.specs.Parts.{Numbers, all_of, Past, Now}
-use Rattle.spec_protocol.specs.Seats.{OpenTransaction, Session, Written, Role, idle, session, builder, SeatState, nobody, IsAtRest, may_end, joined}
-use Rattle.spec_protocol.specs.StandTogether.{History, Stands}
-use Rattle.spec_protocol.specs.TranscriptsAgree.{session_moments, moments_of, IsMoment, ImagesOfPast, MarksWithin, SeatAgrees, TranscriptsAgree}
-use Rattle.spec_protocol.proofs.Places.{set_here, set_else}
+use Rattle.law_protocol_steps.specs.Server.{Server}
+use Rattle.law_protocol_steps.specs.Cells.{LedgerCell, Cell}
+use Rattle.law_protocol_steps.specs.Contents.{contents, known}
+use Rattle.law_protocol_steps.specs.OpenOnes.{HasOpen}
+use Rattle.law_protocol_steps.specs.Parts.{Numbers, all_of, Past, Now}
+use Rattle.law_protocol_steps.specs.Seats.{OpenTransaction, Session, Written, Role, idle, session, builder, SeatState, nobody, IsAtRest, may_end, joined}
+use Rattle.law_protocol_steps.specs.StandTogether.{History, Stands}
+use Rattle.law_protocol_steps.specs.TranscriptsAgree.{session_moments, moments_of, IsMoment, ImagesOfPast, MarksWithin, SeatAgrees, TranscriptsAgree}
+use Rattle.law_protocol_steps.proofs.Places.{set_here, set_else}
 use Rattle.law_protocol_end.proofs.SameOpens.{tables_same, scripts_same, trees_same, agree_same, cover_same, rows_same}
 
 -- ---- lists

@@ -11,12 +11,12 @@ use Rattle.spec_history.specs.Transactions.{listed, unfixed}
 use Rattle.spec_history.specs.Worlds.{first, run}
 use Rattle.spec_history.proofs.Settles.{in_append}
 use Rattle.spec_history.proofs.Trace.{each_weaker}
-use Rattle.spec_protocol.specs.Server.{Server}
-use Rattle.spec_protocol.specs.Cells.{LedgerCell}
-use Rattle.spec_protocol.specs.Seats.{OpenTransaction, Role, session, Session, SeatState, Written}
-use Rattle.spec_protocol.specs.OpenOnes.{HasOpen, texts_so_far}
-use Rattle.spec_protocol.specs.Parts.{AreTransactions, IsTransaction, Now, Past, all_of}
-use Rattle.spec_protocol.specs.TranscriptsAgree.{TranscriptsAgree}
+use Rattle.law_protocol_steps.specs.Server.{Server}
+use Rattle.law_protocol_steps.specs.Cells.{LedgerCell}
+use Rattle.law_protocol_steps.specs.Seats.{OpenTransaction, Role, session, Session, SeatState, Written}
+use Rattle.law_protocol_steps.specs.OpenOnes.{HasOpen, texts_so_far}
+use Rattle.law_protocol_steps.specs.Parts.{AreTransactions, IsTransaction, Now, Past, all_of}
+use Rattle.law_protocol_steps.specs.TranscriptsAgree.{TranscriptsAgree}
 use Rattle.law_protocol_end.proofs.GoneFree.{gone_free}
 use Rattle.law_protocol_steps.proofs.Ids.{InTransaction, in_transaction, each_in}
 

@@ -15,12 +15,12 @@ use Rattle.law_history.proofs.Agreed.{there_is}
 use Rattle.spec_history.proofs.Cuts.{good_append, run_append}
 use Rattle.spec_history.proofs.Settles.{in_append}
 use Rattle.spec_history.proofs.Setup.{silent}
-use Rattle.spec_protocol.specs.AtTheEnd.{AllRest, AreWritten, SessionsDiffer, WasKnown}
-use Rattle.spec_protocol.specs.Cells.{Cell}
-use Rattle.spec_protocol.specs.Parts.{Numbers, BeganAfter, WasOver, Past, IsPast}
-use Rattle.spec_protocol.specs.Seats.{SeatState, Written}
-use Rattle.spec_protocol.specs.Server.{Server}
-use Rattle.spec_protocol.specs.StandTogether.{History, Stands}
+use Rattle.law_protocol_steps.specs.AtTheEnd.{AllRest, AreWritten, SessionsDiffer, WasKnown}
+use Rattle.law_protocol_steps.specs.Cells.{Cell}
+use Rattle.law_protocol_steps.specs.Parts.{Numbers, BeganAfter, WasOver, Past, IsPast}
+use Rattle.law_protocol_steps.specs.Seats.{SeatState, Written}
+use Rattle.law_protocol_steps.specs.Server.{Server}
+use Rattle.law_protocol_steps.specs.StandTogether.{History, Stands}
 use Rattle.law_protocol_steps.proofs.Ids.{each_in}
 use Rattle.law_protocol_end.proofs.JoinsStand.{rests_none}
 

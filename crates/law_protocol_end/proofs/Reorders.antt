@@ -12,7 +12,7 @@ use Rattle.spec_history.specs.Lists.{Text, Each, Some_of, At, sum}
 use Rattle.spec_history.specs.Meaning.{Meaning}
 use Rattle.spec_history.specs.Transcripts.{Transcript}
 use Rattle.spec_history.proofs.Trace.{each_weaker}
-use Rattle.spec_protocol.specs.Reordered.{moved, Reordered, as_is, swaps, swapped, turned}
+use Rattle.law_protocol_steps.specs.Reordered.{moved, Reordered, as_is, swaps, swapped, turned}
 
 -- ---- places
 

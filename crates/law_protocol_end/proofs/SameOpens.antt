@@ -1,19 +1,19 @@
 -- Where the open transactions of seats are the same, what is said of cells and seats but for transcripts stays.
 use Rattle.std.proofs.Common.{ℕ, List, Option, refl}
 use Rattle.spec_model.specs.Catalog.{Defs, defs_of}
-use Rattle.spec_protocol.specs.Server.{Server}
+use Rattle.law_protocol_steps.specs.Server.{Server}
 use Rattle.sql_types.specs.declared.lock.Hold.{Hold}
-use Rattle.spec_protocol.specs.Cells.{Creator}
-use Rattle.spec_protocol.specs.Contents.{Contents, Known}
-use Rattle.spec_protocol.specs.Seats.{OpenTransaction, Session, SeatState}
-use Rattle.spec_protocol.specs.OpenOnes.{HasOpen}
-use Rattle.spec_protocol.specs.TablesAreSerial.{TablesAreSerial, Creates, def_at}
-use Rattle.spec_protocol.specs.OpenScripts.{OpenScripts}
-use Rattle.spec_protocol.specs.LocksCover.{Belongs, LocksCover}
-use Rattle.spec_protocol.specs.LocksAgree.{SeatHas, LocksAgree}
-use Rattle.spec_protocol.specs.TreesAreOfEvents.{TreesAreOfEvents}
+use Rattle.law_protocol_steps.specs.Cells.{Creator}
+use Rattle.law_protocol_steps.specs.Contents.{Contents, Known}
+use Rattle.law_protocol_steps.specs.Seats.{OpenTransaction, Session, SeatState}
+use Rattle.law_protocol_steps.specs.OpenOnes.{HasOpen}
+use Rattle.law_protocol_steps.specs.TablesAreSerial.{TablesAreSerial, Creates, def_at}
+use Rattle.law_protocol_steps.specs.OpenScripts.{OpenScripts}
+use Rattle.law_protocol_steps.specs.LocksCover.{Belongs, LocksCover}
+use Rattle.law_protocol_steps.specs.LocksAgree.{SeatHas, LocksAgree}
+use Rattle.law_protocol_steps.specs.TreesAreOfEvents.{TreesAreOfEvents}
 use Rattle.law_protocol_steps.proofs.Turns.{StillCreates, definitions_stand, stands_as}
-use Rattle.spec_protocol.specs.RowsAgree.{RowsAgree}
+use Rattle.law_protocol_steps.specs.RowsAgree.{RowsAgree}
 use Rattle.sql_types.specs.declared.statement.Stmt.{Stmt}
 
 abbrev pub Opens : List SeatState → List SeatState → Type 0

@@ -16,12 +16,12 @@ use Rattle.spec_history.specs.Transcripts.{Transcript}
 use Rattle.spec_history.specs.Worlds.{first, run}
 use Rattle.law_history.proofs.Agreed.{agrees}
 use Rattle.spec_history.proofs.Settles.{in_append}
-use Rattle.spec_protocol.specs.AtTheEnd.{AllRest, IsWritten, AreWritten, NamesDiffer, SessionsDiffer, WroteAt}
-use Rattle.spec_protocol.specs.Cells.{Cell}
-use Rattle.spec_protocol.specs.Parts.{Numbers, Past}
-use Rattle.spec_protocol.specs.Seats.{SeatState, Written}
-use Rattle.spec_protocol.specs.Server.{Server}
-use Rattle.spec_protocol.specs.StandTogether.{History, Stands}
+use Rattle.law_protocol_steps.specs.AtTheEnd.{AllRest, IsWritten, AreWritten, NamesDiffer, SessionsDiffer, WroteAt}
+use Rattle.law_protocol_steps.specs.Cells.{Cell}
+use Rattle.law_protocol_steps.specs.Parts.{Numbers, Past}
+use Rattle.law_protocol_steps.specs.Seats.{SeatState, Written}
+use Rattle.law_protocol_steps.specs.Server.{Server}
+use Rattle.law_protocol_steps.specs.StandTogether.{History, Stands}
 use Rattle.law_protocol_end.proofs.GoneFree.{gone_rests}
 use Rattle.law_protocol_end.proofs.JoinsStand.{rests_none}
 use Rattle.law_protocol_end.proofs.NoneWanting.{past_over}

@@ -50,3 +50,4 @@ pub mod TranscriptActs
 pub mod TranscriptProgress
 pub mod Turns
 pub mod VisitActs
+pub use Rattle.spec_protocol.proofs.Places

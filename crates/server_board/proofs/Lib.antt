@@ -1,3 +1,12 @@
 pub mod Begins
 pub mod Unchanged
 pub use Rattle.law_sequential.proofs.AlonesKeep
+pub use Rattle.law_sequential.proofs.Goes
+pub use Rattle.law_sequential.proofs.GoesBehind
+pub use Rattle.law_sequential.proofs.SameNames
+pub use Rattle.law_sequential.proofs.SeatOn
+pub use Rattle.law_sequential.proofs.SeatOnBehind
+pub use Rattle.law_sequential.proofs.SessionOutput
+pub use Rattle.law_sequential.proofs.SessionsStand
+pub use Rattle.law_sequential.proofs.SessionsStandBehind
+pub use Rattle.law_sequential.proofs.StepsAlone

@@ -2,3 +2,14 @@ pub mod Laws
 pub mod ServedDatabase
 pub mod SomeServer
 pub mod StartsWith
+pub use Rattle.law_sequential.specs.Continued
+pub use Rattle.law_sequential.specs.EndsLast
+pub use Rattle.law_sequential.specs.InStep
+pub use Rattle.law_sequential.specs.OutcomeBehind
+pub use Rattle.law_sequential.specs.Retold
+pub use Rattle.law_sequential.specs.RunBehind
+pub use Rattle.law_sequential.specs.RunStart
+pub use Rattle.law_sequential.specs.SessionOutput
+pub use Rattle.law_sequential.specs.Sessions
+pub use Rattle.law_sequential.specs.SessionsBehind
+pub use Rattle.law_sequential.specs.Wrote

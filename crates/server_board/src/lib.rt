@@ -6,4 +6,8 @@ mod giving;
 mod world;
 
 pub use giving::{give_all_with, give_with};
+pub use law_sequential::{
+    ended_runs_behind_a_past_agree, journals_of_runs_behind_a_past_are_legal, runs_begin,
+    runs_behind_no_past_agree, times_behind_a_past_are_those_of_sessions,
+};
 pub use world::{LedgerWorld, SeatKnowledge, Serving};

@@ -10,9 +10,9 @@ use Rattle.spec_protocol.specs.AllowedVisit.{OutsAreIn}
 use Rattle.spec_protocol.specs.Seats.{KeptImage}
 use Rattle.spec_protocol.specs.Server.{Server}
 use Rattle.spec_protocol.specs.Serves.{Serves}
-use Rattle.law_sequential.specs.Sessions.{SessionOutput, told_with}
-use Rattle.law_sequential.specs.SessionsBehind.{SessionsStandBehind}
-use Rattle.law_sequential.proofs.SeatOnBehind.{visit_on}
+use Rattle.server_board.specs.Sessions.{SessionOutput, told_with}
+use Rattle.server_board.specs.SessionsBehind.{SessionsStandBehind}
+use Rattle.server_board.proofs.SeatOnBehind.{visit_on}
 use Rattle.server_session.specs.KeptCell.{KeptCell}
 use Rattle.server_session.specs.Needs.{need_of}
 use Rattle.server_session.specs.Sits.{Sits}

@@ -13,11 +13,11 @@ use Rattle.spec_protocol.specs.Follows.{alones_lines, may_lines, names_begun}
 use Rattle.spec_protocol.specs.AllowedVisit.{AllowedVisit}
 use Rattle.spec_protocol.specs.Seats.{KeptImage, Role, Session, idle, session, SeatState}
 use Rattle.spec_protocol.specs.Server.{Server}
-use Rattle.law_sequential.specs.EndsLast.{Phase, running, ending, InPhase, IsNoEnd}
-use Rattle.law_sequential.specs.InStep.{IsClosing, IsIssue, ClosesForDigest}
-use Rattle.law_sequential.specs.Sessions.{Gains}
-use Rattle.law_sequential.proofs.StepsAlone.{checked_plain, failed_in_plain}
-use Rattle.law_sequential.proofs.Goes.{more_names, plain_names, all_silent, may_silent}
+use Rattle.server_board.specs.EndsLast.{Phase, running, ending, InPhase, IsNoEnd}
+use Rattle.server_board.specs.InStep.{IsClosing, IsIssue, ClosesForDigest}
+use Rattle.server_board.specs.Sessions.{Gains}
+use Rattle.server_board.proofs.StepsAlone.{checked_plain, failed_in_plain}
+use Rattle.server_board.proofs.Goes.{more_names, plain_names, all_silent, may_silent}
 use Rattle.server_session.specs.SessionOutput.{IsPlain, IsPlainAnonymousAct, closed_first, AreVisitDeeds, plainly, committed, closed_full, issued, Adds}
 
 -- ---- acts

@@ -21,12 +21,12 @@ use Rattle.spec_protocol.specs.Server.{Server}
 use Rattle.spec_protocol.specs.StandTogether.{StandTogether}
 use Rattle.law_behind.specs.Past.{Past}
 use Rattle.spec_protocol.specs.Serves.{Serves}
-use Rattle.law_sequential.specs.EndsLast.{running}
-use Rattle.law_sequential.specs.OutcomeBehind.{HasEndedBehind}
-use Rattle.law_sequential.specs.Sessions.{SessionOutput, told_nothing}
-use Rattle.law_sequential.specs.SessionsBehind.{SessionsStandBehind}
-use Rattle.law_sequential.proofs.GoesBehind.{since, ledger_is}
-use Rattle.law_sequential.proofs.SessionsStandBehind.{sessions_stand_first, one_session_more, sessions_have_ended}
+use Rattle.server_board.specs.EndsLast.{running}
+use Rattle.server_board.specs.OutcomeBehind.{HasEndedBehind}
+use Rattle.server_board.specs.Sessions.{SessionOutput, told_nothing}
+use Rattle.server_board.specs.SessionsBehind.{SessionsStandBehind}
+use Rattle.server_board.proofs.GoesBehind.{since, ledger_is}
+use Rattle.server_board.proofs.SessionsStandBehind.{sessions_stand_first, one_session_more, sessions_have_ended}
 use Rattle.server_visits.specs.Full.{IsLedger}
 use Rattle.server_visits.specs.Images.{AreImageBytes, CellsStand, JournalFitsFormat}
 use Rattle.server_session.specs.KeptCell.{KeptCell}

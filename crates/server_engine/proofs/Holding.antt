@@ -14,8 +14,8 @@ use Rattle.spec_protocol.specs.Seats.{KeptImage, SeatState}
 use Rattle.spec_protocol.specs.Server.{Server}
 use Rattle.spec_protocol.proofs.Places.{set_same}
 use Rattle.spec_protocol.specs.Serves.{Serves}
-use Rattle.law_sequential.specs.EndsLast.{Phase, running, ending, InPhase}
-use Rattle.law_sequential.specs.Sessions.{SessionOutput, names_told, told_with}
+use Rattle.server_board.specs.EndsLast.{Phase, running, ending, InPhase}
+use Rattle.server_board.specs.Sessions.{SessionOutput, names_told, told_with}
 use Rattle.format_transcript.specs.TranscriptText.{entry_text}
 use Rattle.sql_types.specs.declared.end_line.EndLine.{EndLine}
 use Rattle.server_visits.specs.Full.{ClosesFull}

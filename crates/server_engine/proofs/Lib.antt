@@ -18,7 +18,7 @@ pub mod Turns
 mod Unchanged
 mod Waiting
 pub mod Within
-pub use Rattle.law_sequential.proofs.SameNames
-pub use Rattle.law_sequential.proofs.SessionOutput
+pub use Rattle.server_board.proofs.SameNames
+pub use Rattle.server_board.proofs.SessionOutput
 pub use Rattle.server_visits.proofs.ImagesOfCells
 pub use Rattle.server_visits.proofs.Servers

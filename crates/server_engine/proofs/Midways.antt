@@ -9,7 +9,7 @@ use Rattle.spec_protocol.specs.Seats.{KeptImage}
 use Rattle.spec_protocol.specs.LedgerVisits.{closed_by}
 use Rattle.spec_protocol.proofs.LedgerNumbers.{pending_after}
 use Rattle.spec_protocol.proofs.Places.{at_set, set_again, set_else, set_here, set_same}
-use Rattle.law_sequential.proofs.GoesBehind.{some_size}
+use Rattle.server_board.proofs.GoesBehind.{some_size}
 use Rattle.server_visits.specs.Full.{ClosesFull, ClosesOne}
 use Rattle.server_session.specs.KeptCell.{KeptCell, Keeps}
 use Rattle.server_session.specs.Needs.{need_of, point_need, visits_left}

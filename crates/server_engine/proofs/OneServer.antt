@@ -20,16 +20,16 @@ use Rattle.spec_protocol.specs.StandTogether.{StandTogether}
 use Rattle.law_behind.specs.Past.{Past}
 use Rattle.spec_protocol.proofs.Places.{set_same}
 use Rattle.spec_protocol.specs.Serves.{Serves}
-use Rattle.law_sequential.specs.EndsLast.{Phase, ending, InPhase}
-use Rattle.law_sequential.specs.RunStart.{RunStart}
-use Rattle.law_sequential.specs.Sessions.{SessionOutput, told_with, Runs, IsOver as HasEnded, IsShown, EachShown, OthersInactive}
-use Rattle.law_sequential.specs.SessionsBehind.{SessionsStandBehind}
-use Rattle.law_sequential.specs.InStep.{Waits}
-use Rattle.law_sequential.proofs.Goes.{all_silent}
-use Rattle.law_sequential.proofs.GoesBehind.{since, ledger_is, sized, some_size, close_more}
-use Rattle.law_sequential.proofs.SeatOn.{waits_by_anonymous_acts}
-use Rattle.law_sequential.proofs.SeatOnBehind.{alone_on, over_now}
-use Rattle.law_sequential.proofs.SessionsStandBehind.{cells_on}
+use Rattle.server_board.specs.EndsLast.{Phase, ending, InPhase}
+use Rattle.server_board.specs.RunStart.{RunStart}
+use Rattle.server_board.specs.Sessions.{SessionOutput, told_with, Runs, IsOver as HasEnded, IsShown, EachShown, OthersInactive}
+use Rattle.server_board.specs.SessionsBehind.{SessionsStandBehind}
+use Rattle.server_board.specs.InStep.{Waits}
+use Rattle.server_board.proofs.Goes.{all_silent}
+use Rattle.server_board.proofs.GoesBehind.{since, ledger_is, sized, some_size, close_more}
+use Rattle.server_board.proofs.SeatOn.{waits_by_anonymous_acts}
+use Rattle.server_board.proofs.SeatOnBehind.{alone_on, over_now}
+use Rattle.server_board.proofs.SessionsStandBehind.{cells_on}
 use Rattle.server_visits.specs.Full.{ClosesOne}
 use Rattle.server_session.specs.KeptCell.{KeptCell, Keeps}
 use Rattle.server_session.specs.Needs.{need_of}

@@ -18,7 +18,7 @@ use Rattle.spec_protocol.specs.Server.{Server}
 use Rattle.spec_protocol.specs.Visits.{Visit, Happens}
 use Rattle.spec_protocol.specs.Visits as visit
 use Rattle.spec_protocol.proofs.LedgerNumbers.{pending_after}
-use Rattle.law_sequential.specs.InStep.{Waits}
+use Rattle.server_board.specs.InStep.{Waits}
 use Rattle.server_session.specs.IsEnd.{IsEnd}
 use Rattle.server_session.specs.SessionOutput.{pending_of}
 use Rattle.server_session.specs.Sits.{Sits, Runs, left_of, place_seen}

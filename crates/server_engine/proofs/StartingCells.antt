@@ -14,9 +14,9 @@ use Rattle.spec_protocol.specs.Cells.{first_cells}
 use Rattle.spec_protocol.specs.Server.{Server}
 use Rattle.spec_protocol.specs.Serves.{Serves}
 use Rattle.law_behind.specs.Past.{no_past, unclosed}
-use Rattle.law_sequential.specs.Retold.{AreWords, CanBeRetold, Words, past_of}
-use Rattle.law_sequential.specs.Continued.{continued_cells}
-use Rattle.law_sequential.specs.RunStart.{RunStart}
+use Rattle.server_board.specs.Retold.{AreWords, CanBeRetold, Words, past_of}
+use Rattle.server_board.specs.Continued.{continued_cells}
+use Rattle.server_board.specs.RunStart.{RunStart}
 use Rattle.server_session.specs.KeptCell.{KeptCell, Keeps}
 use Rattle.server_engine.specs.FirstCells.{first_kept}
 use Rattle.server_engine.specs.Standing.{cells_seen}

@@ -9,11 +9,11 @@ use Rattle.spec_protocol.specs.Cells.{Cell}
 use Rattle.spec_protocol.specs.Seats.{OpenTransaction, SeatState}
 use Rattle.spec_protocol.specs.Server.{Server}
 use Rattle.law_behind.specs.Past.{Past}
-use Rattle.law_sequential.specs.EndsLast.{Phase, running, ending}
-use Rattle.law_sequential.specs.RunStart.{RunStart}
-use Rattle.law_sequential.specs.Sessions.{SessionOutput}
-use Rattle.law_sequential.specs.SessionsBehind.{SessionsStandBehind}
-use Rattle.law_sequential.proofs.SessionsStandBehind.{sessions_may_end}
+use Rattle.server_board.specs.EndsLast.{Phase, running, ending}
+use Rattle.server_board.specs.RunStart.{RunStart}
+use Rattle.server_board.specs.Sessions.{SessionOutput}
+use Rattle.server_board.specs.SessionsBehind.{SessionsStandBehind}
+use Rattle.server_board.proofs.SessionsStandBehind.{sessions_may_end}
 use Rattle.server_session.specs.KeptCell.{KeptCell}
 use Rattle.server_session.specs.Needs.{need_of, point_need, cell_or_done, back_need}
 use Rattle.server_session.specs.ControlPoints.{IsAnswering, IsAnsweringAt, IsBegun, IsBegunAt, IsBetween, IsBetweenAt, IsInside, IsInsideAt, IsLeaving, IsLeavingAt, IsOver, IsOverAt, IsUnderWay, IsUnderWayAt, KeepsStatement, IsSamePhase}

@@ -3,7 +3,7 @@ use Rattle.std.proofs.Common.{◌≡◌, ◌≤◌, ◌∙◌, ℕ, zero, suc, L
 use mathlib.Core.Option.{some, some-injective}
 use lib.ListN.{get_elem?}
 use Rattle.spec_history.specs.Lists.{Each}
-use Rattle.law_sequential.specs.Sessions.{SessionOutput}
+use Rattle.server_board.specs.Sessions.{SessionOutput}
 use Rattle.spec_protocol.proofs.Places.{set_same}
 use Rattle.server_session.specs.KeptCell.{KeptCell}
 use Rattle.server_session.specs.ControlPoints.{IsBetween, IsOver}

@@ -12,16 +12,16 @@ use Rattle.spec_protocol.specs.Follows.{may_lines, names_begun}
 use Rattle.spec_protocol.specs.Seats.{KeptImage, Session, session, SeatState}
 use Rattle.spec_protocol.specs.Server.{Server}
 use Rattle.law_behind.specs.Past.{Past}
-use Rattle.law_sequential.specs.EndsLast.{Phase, InPhase}
-use Rattle.law_sequential.specs.InStep.{Waits}
-use Rattle.law_sequential.specs.RunBehind.{SequentialRunBehind}
-use Rattle.law_sequential.specs.RunStart.{RunStart}
-use Rattle.law_sequential.specs.Sessions.{SessionOutput, names_told, told_with, Gains, IsOver, IsShown, OthersInactive, Runs}
-use Rattle.law_sequential.specs.SessionsBehind.{SessionsStandBehind}
-use Rattle.law_sequential.proofs.GoesBehind.{visit_more}
-use Rattle.law_sequential.proofs.SeatOn.{runs_on}
-use Rattle.law_sequential.proofs.SessionsStand.{ShownAt, shown_at, inactive_except}
-use Rattle.law_sequential.proofs.SessionsStandBehind.{one_seat_on}
+use Rattle.server_board.specs.EndsLast.{Phase, InPhase}
+use Rattle.server_board.specs.InStep.{Waits}
+use Rattle.server_board.specs.RunBehind.{SequentialRunBehind}
+use Rattle.server_board.specs.RunStart.{RunStart}
+use Rattle.server_board.specs.Sessions.{SessionOutput, names_told, told_with, Gains, IsOver, IsShown, OthersInactive, Runs}
+use Rattle.server_board.specs.SessionsBehind.{SessionsStandBehind}
+use Rattle.server_board.proofs.GoesBehind.{visit_more}
+use Rattle.server_board.proofs.SeatOn.{runs_on}
+use Rattle.server_board.proofs.SessionsStand.{ShownAt, shown_at, inactive_except}
+use Rattle.server_board.proofs.SessionsStandBehind.{one_seat_on}
 use Rattle.server_engine.proofs.AnonymousActs.{not_idle}
 
 module _ {v : Server} {database : Text} {size : ℕ} {past : Past} {start : RunStart v database size past} {phase : Phase} {lines : List InputLine} {moments : List ℕ} {told : List SessionOutput} {cells : List Cell} {states : List SeatState} (c : SessionsStandBehind start phase lines moments told cells states)

@@ -3,7 +3,7 @@ use Rattle.std.specs.Prelude.{ℕ, ◌++◌, List, [], ◌∷◌}
 use Rattle.spec_history.specs.Inputs.{InputLine}
 use Rattle.spec_history.specs.Lists.{Text}
 use Rattle.law_behind.specs.Past.{Past, no_past}
-use Rattle.law_sequential.specs.EndsLast.{Phase, running, ending}
+use Rattle.server_board.specs.EndsLast.{Phase, running, ending}
 
 pub record CoreInput : Type 0 where
   pub database : Text

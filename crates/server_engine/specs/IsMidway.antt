@@ -16,7 +16,7 @@ use Rattle.server_session.specs.declared.seat.Seat.{Seat}
 use Rattle.server_session.specs.declared.stage.ControlPoint.{ControlPoint}
 use Rattle.server_session.specs.declared.stage.ControlPoint.TheVariants.{Inside}
 use Rattle.sql_types.specs.declared.end_line.EndLine.{EndLine}
-use Rattle.law_sequential.specs.EndsLast.{running}
+use Rattle.server_board.specs.EndsLast.{running}
 use Rattle.server_engine.specs.CoreInput.{CoreInput}
 use Rattle.server_engine.specs.Standing.{cells_seen, seats_seen, pending_at, Found, Holds, IsInactive, Stands}
 use Rattle.server_engine.specs.declared.one_thread.Core.{Core}

@@ -5,10 +5,10 @@ pub mod Parts
 pub mod Standing
 pub mod Starts
 pub mod Written
-pub use Rattle.law_sequential.specs.OutcomeBehind
-pub use Rattle.law_sequential.specs.SessionOutput
-pub use Rattle.law_sequential.specs.Wrote
-pub use Rattle.law_sequential.specs.EndsLast
+pub use Rattle.server_board.specs.OutcomeBehind
+pub use Rattle.server_board.specs.SessionOutput
+pub use Rattle.server_board.specs.Wrote
+pub use Rattle.server_board.specs.EndsLast
 pub use Rattle.server_visits.specs.Full
 pub use Rattle.server_visits.specs.Images
 pub use Rattle.server_visits.specs.LedgerSeen

@@ -8,7 +8,7 @@ use Rattle.server_visits.specs.Room.{FitsImageFormat}
 use Rattle.spec_syntax.specs.Text.{statement_of}
 use Rattle.spec_protocol.specs.Server.{Server}
 use Rattle.spec_protocol.specs.Serves.{Serves}
-use Rattle.law_sequential.specs.OutcomeBehind.{HasEndedBehind}
+use Rattle.server_board.specs.OutcomeBehind.{HasEndedBehind}
 use Rattle.server_engine.specs.CoreInput.{CoreInput}
 use Rattle.server_engine.specs.Standing.{entry_texts, Stands, IsEnded}
 use Rattle.server_engine.specs.declared.one_thread.Core.{Core}

@@ -11,10 +11,10 @@ use Rattle.spec_protocol.specs.Cells.{Cell, ledger_at}
 use Rattle.spec_protocol.specs.Seats.{idle, SeatState}
 use Rattle.spec_protocol.specs.Server.{Server}
 use Rattle.spec_protocol.specs.Serves.{Serves}
-use Rattle.law_sequential.specs.EndsLast.{running}
-use Rattle.law_sequential.specs.RunStart.{RunStart}
-use Rattle.law_sequential.specs.Sessions.{SessionOutput, names_told}
-use Rattle.law_sequential.specs.SessionsBehind.{SessionsStandBehind}
+use Rattle.server_board.specs.EndsLast.{running}
+use Rattle.server_board.specs.RunStart.{RunStart}
+use Rattle.server_board.specs.Sessions.{SessionOutput, names_told}
+use Rattle.server_board.specs.SessionsBehind.{SessionsStandBehind}
 use Rattle.format_transcript.specs.TranscriptText.{entry_text}
 use Rattle.server_session.specs.KeptCell.{KeptCell, Keeps}
 pub use Rattle.server_session.specs.ControlPoints.{IsBetween, IsOver}

@@ -7,7 +7,7 @@ ghost use Rattle.base_types.specs.Moment.{is_moment};
 ghost use Rattle.base_types.specs.SessionName.{is_session_name};
 ghost use Rattle.sql_types.specs.declared.journal.TheConstants.{MAX_BLOCK};
 ghost use Rattle.law_behind.specs.Past.{Past};
-ghost use Rattle.law_sequential.specs.EndsLast.{running, ending};
+ghost use Rattle.server_board.specs.EndsLast.{running, ending};
 ghost use Rattle.server_engine.specs.CoreInput.{CoreInput, nothing_asked, nothing_asked_behind, with_session, with_line, at_end};
 ghost use Rattle.server_engine.specs.IsMidway.{ChangesSession, GoesOn, IsAtSessionEnd, IsBetweenThen, IsOverThen, IsReady, IsRoomy, IsUnchanged, MayAnswer, MayLeave, MayStart, TookUp};
 ghost use Rattle.server_engine.specs.Parts.{HasLeft, IsDone};

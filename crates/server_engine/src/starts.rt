@@ -13,14 +13,14 @@ ghost use Rattle.spec_syntax.specs.Text.{statement_of};
 ghost use Rattle.spec_protocol.specs.Server.{Server};
 ghost use Rattle.spec_protocol.specs.Serves.{Serves};
 ghost use Rattle.law_behind.specs.Past.{no_past, unclosed};
-ghost use Rattle.law_sequential.specs.Retold.{AreWords, CanBeRetold, Words, past_of};
-ghost use Rattle.law_sequential.specs.Continued.{continued_cells};
+ghost use Rattle.server_board.specs.Retold.{AreWords, CanBeRetold, Words, past_of};
+ghost use Rattle.server_board.specs.Continued.{continued_cells};
 ghost use Rattle.server_session.specs.KeptCell.{KeptCell, Keeps};
 ghost use Rattle.server_engine.specs.FirstCells.{first_kept};
 ghost use Rattle.server_engine.specs.Standing.{cells_seen};
 ghost use Rattle.server_engine.specs.Starts.{StartsBehind};
 
-use law_sequential::runs_begin;
+use server_board::runs_begin;
 
 /// A run starts with the first cells, behind no past. And it starts behind the past that a legal journal is with the
 /// cells to which that leads: if its transactions can be told again, if fewer entries than a block takes are in no

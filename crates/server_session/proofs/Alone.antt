@@ -13,14 +13,14 @@ use Rattle.spec_history.specs.Inputs.{InputLine}
 use Rattle.spec_history.specs.Lists.{Text, Each}
 use Rattle.spec_history.specs.Meaning.{Meaning}
 use Rattle.spec_history.specs.Transcripts.{Kind, unread, begin, commit, roll_back, to_savepoint, create, rows, issue, keep, kind_of}
-use Rattle.spec_protocol.specs.ActsOf.{alone_acts, failed_acts, failed_in}
-use Rattle.spec_protocol.specs.Alone.{Alone, begins, takes, no_memory, Alones, none, more, new_session, GoesOn, IsUnfixed}
-use Rattle.spec_protocol.specs.AnonymousActs.{alones_acts}
-use Rattle.spec_protocol.specs.Follows.{alone_lines, alones_lines}
-use Rattle.spec_protocol.specs.Moves.{at_place, sits}
-use Rattle.spec_protocol.specs.Seats.{OpenTransaction, SessionStatus, inside, answering, KeptImage, Session, Role, idle, session, builder, SeatState}
-use Rattle.spec_protocol.specs.Seats as law
-use Rattle.spec_protocol.specs.Server.{Server}
+use Rattle.store_tx.specs.ActsOf.{alone_acts, failed_acts, failed_in}
+use Rattle.store_tx.specs.Alone.{Alone, begins, takes, no_memory, Alones, none, more, new_session, GoesOn, IsUnfixed}
+use Rattle.store_tx.specs.AnonymousActs.{alones_acts}
+use Rattle.store_tx.specs.Follows.{alone_lines, alones_lines}
+use Rattle.store_tx.specs.Moves.{at_place, sits}
+use Rattle.store_tx.specs.Seats.{OpenTransaction, SessionStatus, inside, answering, KeptImage, Session, Role, idle, session, builder, SeatState}
+use Rattle.store_tx.specs.Seats as law
+use Rattle.store_tx.specs.Server.{Server}
 use Rattle.server_session.specs.ControlPoints.{IsBetween, IsBetweenAt, IsBegun, IsBegunAt}
 use Rattle.server_session.specs.Sits.{Sits, Runs, HasScript, HasScriptAt, HasScriptCapacity, said_at, line_of, IsControlPoint, IsRead, IsAnswered, place_seen, left_of}
 use Rattle.server_session.specs.Steps.{Steps, StepsAlone, Starts, Begins, line_with}

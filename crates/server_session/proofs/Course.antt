@@ -16,14 +16,14 @@ use Rattle.spec_model.specs.Replies.{reply_text}
 use Rattle.spec_model.specs.Script.{Reading}
 use Rattle.spec_model.specs.ScriptRequests.{runs}
 use Rattle.spec_history.specs.Lists.{Text}
-use Rattle.spec_protocol.specs.Alone.{refused_in, refused_out, no_memory, saves, has_too_many, goes_back, has_no_savepoint, is_back, none, more, GoesOn, tables_visited}
-use Rattle.spec_protocol.specs.Answering.{savepoints_from, refused_inside, refused_outside}
-use Rattle.spec_protocol.specs.Doing.{with_reply, stage_after}
-use Rattle.spec_protocol.specs.Moves.{at_place, sits, with_undo_state, InOpenTransaction}
-use Rattle.spec_protocol.specs.Seats.{OpenSavepoint, Tree, OpenTransaction, going_back, inside, answering, Session, SeatState}
-use Rattle.spec_protocol.specs.Seats as law
-use Rattle.spec_protocol.specs.Server.{Server}
-use Rattle.spec_protocol.specs.Serves.{Serves}
+use Rattle.store_tx.specs.Alone.{refused_in, refused_out, no_memory, saves, has_too_many, goes_back, has_no_savepoint, is_back, none, more, GoesOn, tables_visited}
+use Rattle.store_tx.specs.Answering.{savepoints_from, refused_inside, refused_outside}
+use Rattle.store_tx.specs.Doing.{with_reply, stage_after}
+use Rattle.store_tx.specs.Moves.{at_place, sits, with_undo_state, InOpenTransaction}
+use Rattle.store_tx.specs.Seats.{OpenSavepoint, Tree, OpenTransaction, going_back, inside, answering, Session, SeatState}
+use Rattle.store_tx.specs.Seats as law
+use Rattle.store_tx.specs.Server.{Server}
+use Rattle.store_tx.specs.Serves.{Serves}
 use Rattle.store_tx.specs.Represents.{Represents}
 use Rattle.server_session.specs.Course.{IsReady, refusal_of, said, SameBeside, SameBy, Saved, GoneBack, back_by, stage_inside, stage_outside, IsCourseIn, IsCourse}
 use Rattle.server_session.specs.Course as course

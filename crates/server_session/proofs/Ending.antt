@@ -9,10 +9,10 @@ use Rattle.spec_history.specs.Lists.{Text, Each, In}
 use Rattle.spec_history.specs.Transactions.{End, unfixed, committed, ended}
 use Rattle.spec_history.specs.Transcripts.{Entry, statement, end_of_session}
 use Rattle.spec_history.specs.Transcripts as transcripts
-use Rattle.spec_protocol.specs.Alone.{leaves, stops, answers, answers_end, has_left, none, GoesOn, IsReleased, over}
-use Rattle.spec_protocol.specs.Answering.{with_entry, written_of, end_line}
-use Rattle.spec_protocol.specs.Moves.{at_place, sits}
-use Rattle.spec_protocol.specs.Seats.{OpenTransaction, inside, answering, between, leaving, Session, session, SeatState}
+use Rattle.store_tx.specs.Alone.{leaves, stops, answers, answers_end, has_left, none, GoesOn, IsReleased, over}
+use Rattle.store_tx.specs.Answering.{with_entry, written_of, end_line}
+use Rattle.store_tx.specs.Moves.{at_place, sits}
+use Rattle.store_tx.specs.Seats.{OpenTransaction, inside, answering, between, leaving, Session, session, SeatState}
 use Rattle.store_tx.specs.Represents.{Represents}
 use Rattle.spec_history.specs.EndSeen.{end_seen, line_seen}
 use Rattle.server_session.specs.IsEnd.{IsEnd}

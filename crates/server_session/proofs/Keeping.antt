@@ -2,8 +2,8 @@
 use Rattle.std.proofs.Common.{◌≡◌, ◌<◌, ℕ, Bool, true, false, List, [], Option, Some, None, refl, sym, ap, subst, subst₂, arith}
 use Rattle.std.specs.Prelude.{slice_get}
 use Rattle.sql_types.specs.declared.end_line.EndLine.{EndLine}
-use Rattle.spec_protocol.specs.Alone.{IsUnfixed}
-use Rattle.spec_protocol.specs.Seats.{OpenTransaction}
+use Rattle.store_tx.specs.Alone.{IsUnfixed}
+use Rattle.store_tx.specs.Seats.{OpenTransaction}
 use Rattle.server_session.specs.ControlPoints.{IsSamePhase, KeepsStatement}
 use Rattle.server_session.specs.Needs.{need_of, point_need, stage_need, end_need, answer_need, back_need, cell_or_done, point_visits, visits_left}
 use Rattle.server_session.specs.Rest.{IsSeated}

@@ -7,5 +7,5 @@ mod Reversed
 mod Savepoints
 pub mod Sitting
 pub use Rattle.spec_ledger.proofs.Adding
-pub use Rattle.spec_protocol.proofs.LedgerNumbers
-pub use Rattle.spec_protocol.proofs.Roots
+pub use Rattle.store_tx.proofs.LedgerNumbers
+pub use Rattle.store_tx.proofs.Roots

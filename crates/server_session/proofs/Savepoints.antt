@@ -6,9 +6,9 @@ use Rattle.sql_value.specs.declared.refusal.Refusal.{Refusal}
 use Rattle.sql_value.specs.declared.refusal.Refusal.TheVariants.{NoSuchSavepoint, LimitExceeded, NoMemory}
 use Rattle.spec_model.specs.Limits.{max_savepoints}
 use Rattle.spec_history.specs.Lists.{Text}
-use Rattle.spec_protocol.specs.Answering.{savepoints_from}
-use Rattle.spec_protocol.specs.Moves.{with_undo_state}
-use Rattle.spec_protocol.specs.Seats.{OpenSavepoint, OpenTransaction}
+use Rattle.store_tx.specs.Answering.{savepoints_from}
+use Rattle.store_tx.specs.Moves.{with_undo_state}
+use Rattle.store_tx.specs.Seats.{OpenSavepoint, OpenTransaction}
 use Rattle.store_tx.specs.Leaves.{with_savepoint}
 use Rattle.store_tx.specs.Represents.{Represents}
 use Rattle.store_tx.specs.declared.context.TxCtx.{TxCtx}

@@ -13,17 +13,17 @@ use Rattle.spec_model.specs.Script.{Reading}
 use Rattle.spec_history.specs.Acts.{SessionAct}
 use Rattle.spec_history.specs.Lists.{Each}
 use Rattle.spec_history.specs.Transactions.{unfixed}
-use Rattle.spec_protocol.specs.Alone.{Alones, none, no_memory, IsUnfixed}
-use Rattle.spec_protocol.specs.Cells.{Cell}
-use Rattle.spec_protocol.specs.AnonymousActs.{did, alones_acts, visit_anonymous_acts}
-use Rattle.spec_protocol.specs.Doing.{with_line, with_reply, stage_after}
-use Rattle.spec_protocol.specs.Follows.{alones_lines}
-use Rattle.spec_protocol.specs.Moves.{at_place, sits, InStatement, InOpenTransaction}
-use Rattle.spec_protocol.specs.Seats.{OpenTransaction, inside, answering, Session, SeatState}
-use Rattle.spec_protocol.specs.Seats as law
-use Rattle.spec_protocol.specs.Server.{Server}
-use Rattle.spec_protocol.specs.Visits.{Visit, nothing, Happens}
-use Rattle.spec_protocol.specs.Serves.{Serves}
+use Rattle.store_tx.specs.Alone.{Alones, none, no_memory, IsUnfixed}
+use Rattle.store_tx.specs.Cells.{Cell}
+use Rattle.store_tx.specs.AnonymousActs.{did, alones_acts, visit_anonymous_acts}
+use Rattle.store_tx.specs.Doing.{with_line, with_reply, stage_after}
+use Rattle.store_tx.specs.Follows.{alones_lines}
+use Rattle.store_tx.specs.Moves.{at_place, sits, InStatement, InOpenTransaction}
+use Rattle.store_tx.specs.Seats.{OpenTransaction, inside, answering, Session, SeatState}
+use Rattle.store_tx.specs.Seats as law
+use Rattle.store_tx.specs.Server.{Server}
+use Rattle.store_tx.specs.Visits.{Visit, nothing, Happens}
+use Rattle.store_tx.specs.Serves.{Serves}
 use Rattle.store_tx.specs.Represents.{Represents}
 use Rattle.store_tx.specs.declared.context.TxCtx.{TxCtx}
 use Rattle.server_session.specs.KeptCell.{KeptCell, Keeps}

@@ -9,9 +9,9 @@ use Rattle.sql_types.specs.declared.statement.Stmt.TheVariants as stmt
 use Rattle.sql_parse.specs.Text.{statement_of}
 use Rattle.spec_model.specs.Limits.{max_savepoints}
 use Rattle.spec_history.specs.Lists.{Text}
-use Rattle.spec_protocol.specs.Answering.{savepoints_from, refused_inside, refused_outside}
-use Rattle.spec_protocol.specs.Moves.{with_undo_state}
-use Rattle.spec_protocol.specs.Seats.{OpenSavepoint, OpenTransaction}
+use Rattle.store_tx.specs.Answering.{savepoints_from, refused_inside, refused_outside}
+use Rattle.store_tx.specs.Moves.{with_undo_state}
+use Rattle.store_tx.specs.Seats.{OpenSavepoint, OpenTransaction}
 use Rattle.store_tx.specs.Leaves.{with_savepoint}
 use Rattle.store_tx.specs.Represents.{Represents}
 use Rattle.store_tx.specs.declared.context.TxCtx.{TxCtx}

@@ -1,6 +1,6 @@
 -- What contracts see of a cell.
 use Rattle.std.specs.Prelude.{ℕ, ◌≡◌, List, []}
-use Rattle.spec_protocol.specs.Cells.{Cell, Catalog, CatalogCell, Ledger, Rows, TableCell}
+use Rattle.store_tx.specs.Cells.{Cell, Catalog, CatalogCell, Ledger, Rows, TableCell}
 use Rattle.spec_ledger.specs.Blocks.{no_hash, last_hash}
 
 -- the cell of which the laws on visits speak, and the hash that the ledger's cell keeps of its last block

@@ -1,6 +1,6 @@
 -- What a seat visits next, and how many visits it needs at most.
 use Rattle.std.specs.Prelude.{ℕ, ◌+◌, Bool, true, false, List, drop, length, slice_get, Option, Some, None}
-use Rattle.spec_protocol.specs.Cells.{catalog_at, ledger_at}
+use Rattle.store_tx.specs.Cells.{catalog_at, ledger_at}
 use Rattle.sql_types.specs.declared.end_line.EndLine.{EndLine}
 use Rattle.server_session.specs.declared.need.NextVisit.{NextVisit}
 use Rattle.server_session.specs.declared.need.NextVisit.TheVariants as need

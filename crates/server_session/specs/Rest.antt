@@ -2,7 +2,7 @@
 use Rattle.std.specs.Prelude.{ℕ, ◌≡◌, ◌<◌, ◌++◌, Bool, true, false, List, [], ◌∷◌, length, vec_capacity, Option, Some, None}
 use Rattle.sql_types.specs.declared.reply.Reply.{Reply}
 use Rattle.spec_history.specs.Lists.{Text}
-use Rattle.spec_protocol.specs.Seats.{SeatState}
+use Rattle.store_tx.specs.Seats.{SeatState}
 use Rattle.server_session.specs.Needs.{leaving_need}
 use Rattle.server_session.specs.ControlPoints.{IsBetween, IsLeaving}
 use Rattle.server_session.specs.Sits.{Sits}

@@ -4,9 +4,9 @@ use Rattle.spec_history.specs.Acts.{SessionAct, starts, commits, issues, answers
 use Rattle.spec_history.specs.Digests.{Digest}
 use Rattle.spec_history.specs.Lists.{Each}
 use Rattle.spec_history.specs.Transcripts.{Entry, end_of_session}
-use Rattle.spec_protocol.specs.Cells.{Cell, Ledger, pending_in}
-use Rattle.spec_protocol.specs.AnonymousActs.{AnonymousAct, did, closed}
-use Rattle.spec_protocol.specs.Seats.{KeptImage, Session, session, SeatState}
+use Rattle.store_tx.specs.Cells.{Cell, Ledger, pending_in}
+use Rattle.store_tx.specs.AnonymousActs.{AnonymousAct, did, closed}
+use Rattle.store_tx.specs.Seats.{KeptImage, Session, session, SeatState}
 
 -- ---- deeds
 

@@ -14,11 +14,11 @@ use Rattle.spec_model.specs.Replies.{reply_text}
 use Rattle.spec_model.specs.ScriptRequests.{runs}
 use Rattle.spec_history.specs.Lists.{Text}
 use Rattle.spec_history.specs.Transactions.{unfixed}
-use Rattle.spec_protocol.specs.Alone.{GoesOn}
-use Rattle.spec_protocol.specs.Answering.{refused_by_check}
-use Rattle.spec_protocol.specs.LedgerVisits.{AssignsIdFor}
-use Rattle.spec_protocol.specs.Seats.{OpenTransaction, SessionStatus, between, inside, leaving, Session, session, SeatState}
-use Rattle.spec_protocol.specs.Seats as law
+use Rattle.store_tx.specs.Alone.{GoesOn}
+use Rattle.store_tx.specs.Answering.{refused_by_check}
+use Rattle.store_tx.specs.LedgerVisits.{AssignsIdFor}
+use Rattle.store_tx.specs.Seats.{OpenTransaction, SessionStatus, between, inside, leaving, Session, session, SeatState}
+use Rattle.store_tx.specs.Seats as law
 use Rattle.store_tx.specs.Represents.{Represents}
 use Rattle.server_session.specs.IsEnd.{IsEnd}
 use Rattle.server_session.specs.VisitedCells.{AreVisited, IsTableCell, table_cell, tables_in, next_back}

@@ -7,17 +7,17 @@ use Rattle.sql_parse.specs.Text.{statement_of}
 use Rattle.spec_history.specs.Inputs.{InputLine}
 use Rattle.spec_history.specs.Lists.{Text, Each, In}
 use Rattle.spec_history.specs.Transcripts.{Entry, EndLine, statement, end_of_session}
-use Rattle.spec_protocol.specs.ActsOf.{alone_acts}
-use Rattle.spec_protocol.specs.Alone.{Alone, Alones, new_session}
-use Rattle.spec_protocol.specs.Cells.{Cell, cell_count, Ledger}
-use Rattle.spec_protocol.specs.AnonymousActs.{alones_acts, may_anonymous_acts}
-use Rattle.spec_protocol.specs.Follows.{alone_lines, alones_lines, may_lines}
-use Rattle.spec_protocol.specs.AllowedVisit.{AllowedVisit, OutsAreIn}
-use Rattle.spec_protocol.specs.Moves.{sits}
-use Rattle.spec_protocol.specs.Seats.{Session, Written, idle, session, SeatState}
-use Rattle.spec_protocol.specs.Server.{Server}
-use Rattle.spec_protocol.specs.StandTogether.{StandTogether}
-use Rattle.spec_protocol.specs.Serves.{Serves}
+use Rattle.store_tx.specs.ActsOf.{alone_acts}
+use Rattle.store_tx.specs.Alone.{Alone, Alones, new_session}
+use Rattle.store_tx.specs.Cells.{Cell, cell_count, Ledger}
+use Rattle.store_tx.specs.AnonymousActs.{alones_acts, may_anonymous_acts}
+use Rattle.store_tx.specs.Follows.{alone_lines, alones_lines, may_lines}
+use Rattle.store_tx.specs.AllowedVisit.{AllowedVisit, OutsAreIn}
+use Rattle.store_tx.specs.Moves.{sits}
+use Rattle.store_tx.specs.Seats.{Session, Written, idle, session, SeatState}
+use Rattle.store_tx.specs.Server.{Server}
+use Rattle.store_tx.specs.StandTogether.{StandTogether}
+use Rattle.store_tx.specs.Serves.{Serves}
 use Rattle.spec_history.specs.EndSeen.{line_seen}
 use Rattle.server_session.specs.KeptCell.{KeptCell, Keeps}
 use Rattle.server_session.specs.Needs.{need_of, visits_left}

@@ -2,7 +2,7 @@
 use Rattle.std.specs.Prelude.{ℕ, ◌≡◌, ◌<◌, ◌≤◌, ◌-◌, ◌==◌, nat_le, if◌then◌else◌, List, [], ◌∷◌, slice_get, Option, Some, None}
 use Rattle.std.specs.List.{filter}
 use Rattle.spec_history.specs.Lists.{In}
-use Rattle.spec_protocol.specs.Cells.{catalog_at, cell_count}
+use Rattle.store_tx.specs.Cells.{catalog_at, cell_count}
 
 pub record VisitedCells : Type 0 where
   -- those that it hasn't released, the newest first

@@ -8,7 +8,7 @@ ghost use Rattle.server_session.specs.ControlPoints.{IsUnderWayAt};
 ghost use Rattle.server_session.specs.Rest.{HasScriptRoom};
 ghost use Rattle.server_session.specs.declared.stage.ControlPoint.TheVariants.{Inside};
 ghost use Rattle.server_session.specs.declared.stage.Stage.TheVariants.{Answering};
-ghost use Rattle.spec_protocol.specs.Answering as answering;
+ghost use Rattle.store_tx.specs.Answering as answering;
 
 use crate::needing::not_catalog;
 use crate::outcome::{said, stopped};

@@ -2,8 +2,8 @@
 
 ghost use Rattle.std.specs.Prelude.{◌≡◌, [], true, if◌then◌else◌};
 ghost use Rattle.base_types.specs.SessionName.{is_session_name};
-ghost use Rattle.spec_protocol.specs.Seats.{idle, SeatState};
-ghost use Rattle.spec_protocol.specs.Server.{Server};
+ghost use Rattle.store_tx.specs.Seats.{idle, SeatState};
+ghost use Rattle.store_tx.specs.Server.{Server};
 ghost use Rattle.spec_history.specs.EndSeen.{line_seen};
 ghost use Rattle.server_session.specs.Needs.{need_of};
 ghost use Rattle.server_session.specs.ControlPoints.{IsBetween, IsOver};

@@ -1,7 +1,7 @@
 //! The cells of a server.
 
 ghost use Rattle.std.specs.Prelude.{ℕ, List};
-ghost use Rattle.spec_protocol.specs.Cells.{Cell};
+ghost use Rattle.store_tx.specs.Cells.{Cell};
 
 /// A cell of a server, whatever else lies in it.
 pub trait ServedCell: Drop {

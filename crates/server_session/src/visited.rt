@@ -1,7 +1,7 @@
 //! The cells in which a transaction may have locks.
 
 ghost use Rattle.std.specs.Prelude.{◌≡◌, ◌≢◌, ◌<◌, ◌+◌, ◌∷◌, [], List, ℕ, OnOk, length, slice_get};
-ghost use Rattle.spec_protocol.specs.Moves.{put_in};
+ghost use Rattle.store_tx.specs.Moves.{put_in};
 
 use base_types::Memory;
 use std::alloc::Global;

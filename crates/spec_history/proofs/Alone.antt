@@ -1,7 +1,7 @@
 -- A transaction of one statement.
 use Rattle.std.proofs.Common.{◌≡◌, ℕ, Bool, true, false, List, [], ◌∷◌, ◌++◌, Option, Some, None, refl, sym, ap, subst, ⊎_elim, inl, inr}
 use Rattle.std.specs.Prelude.{if◌then◌else◌, ◌==◌}
-use Rattle.spec_model.specs.Journals.{Line}
+use Rattle.law_frame.specs.Journals.{Line}
 use Rattle.spec_history.specs.Lists.{Text, Each, In}
 use Rattle.spec_history.specs.Meaning.{Meaning}
 use Rattle.spec_history.specs.Transactions.{End, on_some, committed, ended}

@@ -4,8 +4,8 @@ use Rattle.std.proofs.lemmas.Bool.{eqb-true, eq-eqb}
 use Rattle.std.specs.Prelude.{if◌then◌else◌, ◌==◌}
 use Rattle.sql_types.specs.declared.journal.JournalItem.{JournalItem}
 use Rattle.sql_types.specs.declared.journal.JournalItem.TheVariants.{Tx, Close}
-use Rattle.spec_model.specs.Catalog.{Tables, Defs}
-use Rattle.spec_model.specs.Journals.{Line, tx_count}
+use Rattle.law_frame.specs.Catalog.{Tables, Defs}
+use Rattle.law_frame.specs.Journals.{Line, tx_count}
 use Rattle.spec_history.specs.Lists.{Text, Each, Some_of, In}
 use Rattle.spec_history.specs.Meaning.{Meaning}
 use Rattle.spec_history.specs.Serial.{texts_of, serial}

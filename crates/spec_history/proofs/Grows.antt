@@ -3,7 +3,7 @@ use Rattle.std.proofs.Common.{◌≡◌, ℕ, zero, suc, ◌+◌, ◌-◌, ◌<�
 use Rattle.std.specs.Prelude.{slice_get}
 use Rattle.sql_types.specs.declared.journal.JournalItem.{JournalItem}
 use Rattle.sql_types.specs.declared.journal.JournalItem.TheVariants.{Tx, Close}
-use Rattle.spec_model.specs.Journals.{closed}
+use Rattle.law_frame.specs.Journals.{closed}
 use Rattle.spec_history.specs.Lists.{Text}
 use Rattle.spec_history.specs.Journals.{blocks, in_blocks, times}
 use Rattle.spec_history.specs.Meaning.{Meaning}

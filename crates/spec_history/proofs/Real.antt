@@ -3,12 +3,12 @@ use Rattle.std.proofs.Common.{◌≡◌, ℕ, Bool, true, false, List, [], ◌�
 use Rattle.std.specs.Prelude.{is_some}
 use Rattle.sql_types.specs.declared.statement.Stmt.{Stmt}
 use Rattle.sql_types.specs.declared.lock.LockRequest.{LockRequest}
-use Rattle.spec_model.specs.Catalog.{Defs, Tables, defs_of}
-use Rattle.spec_model.specs.Events.{all_events}
-use Rattle.spec_model.specs.Locks.{CellRequests, cell_requests, cells_clash}
-use Rattle.spec_model.specs.Replies.{reply_text}
-use Rattle.spec_model.specs.Script.{Reading, ScriptEnd, script}
-use Rattle.spec_model.specs.SystemTables.{first_tables}
+use Rattle.law_frame.specs.Catalog.{Defs, Tables, defs_of}
+use Rattle.law_frame.specs.Events.{all_events}
+use Rattle.law_frame.specs.Locks.{CellRequests, cell_requests, cells_clash}
+use Rattle.law_frame.specs.Replies.{reply_text}
+use Rattle.law_frame.specs.Script.{Reading, ScriptEnd, script}
+use Rattle.law_frame.specs.SystemTables.{first_tables}
 use Rattle.law_frame.proofs.Definitions.{opened_keep_defs, one_keeps_defs, nothing_done, cell_requests_dont_create, cell_requests_share}
 use Rattle.spec_history.specs.Lists.{Text}
 use Rattle.spec_history.specs.Meaning.{Meaning}

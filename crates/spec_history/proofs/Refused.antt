@@ -3,8 +3,8 @@ use Rattle.std.proofs.Common.{◌≡◌, ◌≢◌, ℕ, ◌<◌, ◌≤◌, ◌
 use Rattle.std.specs.Prelude.{if◌then◌else◌, ◌==◌}
 use Rattle.std.proofs.lemmas.Bool.{ne_eqb, eqb-true, eq-eqb}
 use Rattle.sql_types.specs.declared.journal.JournalItem.{JournalItem}
-use Rattle.spec_model.specs.Catalog.{Tables, Defs}
-use Rattle.spec_model.specs.Journals.{tx_count}
+use Rattle.law_frame.specs.Catalog.{Tables, Defs}
+use Rattle.law_frame.specs.Journals.{tx_count}
 use Rattle.spec_history.specs.Lists.{Text, Each, Some_of, In, At}
 use Rattle.spec_history.specs.Meaning.{Meaning}
 use Rattle.spec_history.specs.Serial.{after_tx}

@@ -3,7 +3,7 @@ use Rattle.std.proofs.Common.{◌≡◌, ℕ, suc, ◌<◌, ◌≤◌, Bool, tru
 use Rattle.std.specs.Prelude.{if◌then◌else◌, ◌==◌, take}
 use Rattle.std.proofs.lemmas.List.{take_at}
 use Rattle.sql_types.specs.declared.journal.JournalItem.{JournalItem}
-use Rattle.spec_model.specs.Journals.{tx_count}
+use Rattle.law_frame.specs.Journals.{tx_count}
 use Rattle.spec_history.specs.Lists.{Text, Each}
 use Rattle.spec_history.specs.Journals.{blocks}
 use Rattle.spec_history.specs.Meaning.{Meaning}

@@ -3,7 +3,7 @@ use Rattle.std.proofs.Common.{◌≡◌, ℕ, zero, suc, ◌⊎◌, Bool, true, 
 use Rattle.std.specs.Prelude.{if◌then◌else◌, ◌==◌}
 use Rattle.sql_types.specs.declared.journal.JournalItem.{JournalItem}
 use Rattle.sql_types.specs.declared.journal.JournalItem.TheVariants.{Tx, Close}
-use Rattle.spec_model.specs.Journals.{Line, tx_count}
+use Rattle.law_frame.specs.Journals.{Line, tx_count}
 use Rattle.spec_history.specs.Lists.{Text, In}
 use Rattle.spec_history.specs.Journals.{nth_tx}
 use Rattle.spec_history.specs.Meaning.{Meaning}

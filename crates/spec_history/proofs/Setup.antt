@@ -3,7 +3,7 @@ use Rattle.std.proofs.Common.{◌≡◌, ◌≢◌, ℕ, ◌<◌, ◌≤◌, ◌
 use Rattle.std.specs.Prelude.{if◌then◌else◌, ◌==◌}
 use Rattle.std.proofs.lemmas.Bool.{ne_eqb}
 use Rattle.sql_types.specs.declared.journal.JournalItem.{JournalItem}
-use Rattle.spec_model.specs.Journals.{tx_count}
+use Rattle.law_frame.specs.Journals.{tx_count}
 use Rattle.spec_history.specs.Lists.{Text, Each, In}
 use Rattle.spec_history.specs.Journals.{blocks}
 use Rattle.spec_history.specs.Meaning.{Meaning}

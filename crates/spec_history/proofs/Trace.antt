@@ -2,7 +2,7 @@
 use Rattle.std.proofs.Common.{◌≡◌, ℕ, ◌+◌, ◌<◌, ◌≤◌, Bool, true, false, List, [], ◌∷◌, ◌++◌, Option, ap, arith}
 use Rattle.std.specs.Prelude.{if◌then◌else◌, ◌==◌}
 use Rattle.sql_types.specs.declared.journal.JournalItem.TheVariants.{Close}
-use Rattle.spec_model.specs.Journals.{tx_count}
+use Rattle.law_frame.specs.Journals.{tx_count}
 pub use Rattle.law_frame.proofs.LegalRules.{count_append}
 use Rattle.spec_history.specs.Lists.{Text, Each}
 use Rattle.spec_history.specs.Meaning.{Meaning}

@@ -1,6 +1,6 @@
 -- What happened, in the order in which it happened: one list for all sessions.
 use Rattle.std.specs.Prelude.{ℕ, ◌==◌, if◌then◌else◌, Bool, List, [], ◌∷◌, ◌++◌}
-use Rattle.spec_model.specs.Journals.{Line}
+use Rattle.law_frame.specs.Journals.{Line}
 use Rattle.spec_history.specs.Lists.{Text}
 use Rattle.spec_history.specs.Transcripts.{Entry}
 use Rattle.spec_history.specs.Digests.{Digest}

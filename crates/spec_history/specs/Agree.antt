@@ -3,7 +3,7 @@ use Rattle.std.specs.Prelude.{ℕ, suc, ◌≡◌, ◌≢◌, ◌<◌, ◌≤◌
 use Rattle.std.specs.Str.{bytes_eq}
 use Rattle.sql_types.specs.declared.journal.JournalItem.{JournalItem}
 use Rattle.sql_types.specs.declared.journal.JournalItem.TheVariants.{Tx, Close}
-use Rattle.spec_model.specs.Journals.{Line, tx_count}
+use Rattle.law_frame.specs.Journals.{Line, tx_count}
 use Rattle.spec_history.specs.Lists.{Text, Each, Some_of, In, At, sum}
 use Rattle.spec_history.specs.Inputs.{InputSession}
 use Rattle.spec_history.specs.Journals.{blocks}

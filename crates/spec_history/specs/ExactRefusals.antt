@@ -7,10 +7,10 @@ use Rattle.sql_types.specs.declared.lock.LockRequest.{LockRequest}
 use Rattle.sql_types.specs.declared.reply.Reply.{Reply}
 use Rattle.sql_types.specs.declared.reply.Reply.TheVariants as reply
 use Rattle.sql_types.specs.declared.journal.JournalItem.{JournalItem}
-use Rattle.spec_model.specs.Catalog.{Defs}
-use Rattle.spec_model.specs.Holds.{hold}
-use Rattle.spec_model.specs.InTheWay.{Conflict, first_conflict}
-use Rattle.spec_model.specs.Locks.{CellRequests, whole}
+use Rattle.law_frame.specs.Catalog.{Defs}
+use Rattle.law_frame.specs.Holds.{hold}
+use Rattle.law_frame.specs.InTheWay.{Conflict, first_conflict}
+use Rattle.law_frame.specs.Locks.{CellRequests, whole}
 use Rattle.spec_history.specs.Inputs.{InputLine}
 use Rattle.spec_history.specs.Lists.{Text}
 use Rattle.spec_history.specs.Meaning.{Meaning}

@@ -5,7 +5,7 @@ use Rattle.sql_types.specs.declared.reply.Reply.{Reply}
 use Rattle.sql_types.specs.declared.reply.Reply.TheVariants as reply
 use Rattle.sql_types.specs.declared.journal.JournalItem.{JournalItem}
 use Rattle.spec_history.specs.Lists.{Text, Each}
-use Rattle.spec_model.specs.Journals.{Line, tx_count}
+use Rattle.law_frame.specs.Journals.{Line, tx_count}
 use Rattle.spec_history.specs.Journals.{in_blocks}
 use Rattle.spec_history.specs.Meaning.{Meaning}
 use Rattle.spec_history.specs.Transcripts.{EndLine, committed_at, ended_after, Entry, statement, end_of_session, Transcript, ended_id, Kind, commit, roll_back, create, rows, kind_of}

@@ -1,9 +1,9 @@
 -- When an act may happen, by what is so at that moment, and good histories.
 use Rattle.std.specs.Prelude.{ℕ, ◌≡◌, ◌≢◌, ◌⊎◌, ◌+◌, ◌≤◌, Bool, true, false, List, [], ◌∷◌, length, Option, Some, None}
 use Rattle.sql_types.specs.declared.journal.JournalItem.{JournalItem}
-use Rattle.spec_model.specs.Catalog.{Tables}
-use Rattle.spec_model.specs.Journals.{tx_count, closed}
-use Rattle.spec_model.specs.Limits.{max_block}
+use Rattle.law_frame.specs.Catalog.{Tables}
+use Rattle.law_frame.specs.Journals.{tx_count, closed}
+use Rattle.law_frame.specs.Limits.{max_block}
 use Rattle.spec_history.specs.Lists.{Text, Each, Some_of, In}
 use Rattle.spec_history.specs.Journals.{blocks}
 use Rattle.spec_history.specs.Meaning.{Meaning}

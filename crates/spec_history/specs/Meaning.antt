@@ -3,7 +3,7 @@ use Rattle.std.specs.Prelude.{ℕ, ◌≡◌, ◌<◌, Bool, true, false, List, 
 use Rattle.sql_types.specs.declared.statement.Stmt.{Stmt}
 use Rattle.sql_types.specs.declared.reply.Reply.{Reply}
 use Rattle.sql_types.specs.declared.journal.JournalItem.{JournalItem}
-use Rattle.spec_model.specs.Catalog.{Tables, Defs}
+use Rattle.law_frame.specs.Catalog.{Tables, Defs}
 use Rattle.spec_history.specs.Lists.{Text}
 use Rattle.spec_history.specs.Journals.{blocks}
 

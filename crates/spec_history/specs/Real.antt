@@ -4,12 +4,12 @@ use Rattle.sql_types.specs.declared.statement.Stmt.{Stmt}
 use Rattle.sql_types.specs.declared.reply.Reply.{Reply}
 use Rattle.sql_types.specs.declared.lock.Mode.{Mode}
 use Rattle.sql_types.specs.declared.journal.JournalItem.{JournalItem}
-use Rattle.spec_model.specs.Catalog.{Defs, Tables, defs_of}
-use Rattle.spec_model.specs.Events.{all_events}
-use Rattle.spec_model.specs.Locks.{CellRequests, catalog_request, cell_requests, catalog_clash, cells_clash}
-use Rattle.spec_model.specs.Replies.{reply_text}
-use Rattle.spec_model.specs.Script.{Reading, script}
-use Rattle.spec_model.specs.SystemTables.{first_tables}
+use Rattle.law_frame.specs.Catalog.{Defs, Tables, defs_of}
+use Rattle.law_frame.specs.Events.{all_events}
+use Rattle.law_frame.specs.Locks.{CellRequests, catalog_request, cell_requests, catalog_clash, cells_clash}
+use Rattle.law_frame.specs.Replies.{reply_text}
+use Rattle.law_frame.specs.Script.{Reading, script}
+use Rattle.law_frame.specs.SystemTables.{first_tables}
 use Rattle.spec_history.specs.Lists.{Text}
 use Rattle.spec_history.specs.Journals.{blocks}
 use Rattle.spec_history.specs.Meaning.{Meaning}

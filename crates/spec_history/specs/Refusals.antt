@@ -1,7 +1,7 @@
 -- Refusals for a lock: E20 with the transaction that holds it.
 use Rattle.std.specs.Prelude.{ℕ, ◌≡◌, ◌≢◌, ◌⊎◌, ◌<◌, ◌≤◌, Bool, true, List, ◌∷◌, ◌++◌, Option, Some}
 use Rattle.sql_types.specs.declared.journal.JournalItem.{JournalItem}
-use Rattle.spec_model.specs.Catalog.{Defs}
+use Rattle.law_frame.specs.Catalog.{Defs}
 use Rattle.spec_history.specs.Lists.{Text, Each, Some_of, In, At}
 use Rattle.spec_history.specs.Meaning.{Meaning}
 use Rattle.spec_history.specs.Serial.{after_tx}

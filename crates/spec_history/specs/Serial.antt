@@ -3,9 +3,9 @@ use Rattle.std.specs.Prelude.{ℕ, zero, suc, ◌≡◌, ◌≢◌, ◌-◌, ◌
 use Rattle.sql_types.specs.declared.journal.JournalItem.{JournalItem}
 use Rattle.sql_types.specs.declared.journal.JournalItem.TheVariants.{Tx, Close}
 use Rattle.spec_history.specs.Lists.{Text, Each}
-use Rattle.spec_model.specs.Catalog.{Tables}
-use Rattle.spec_model.specs.Journals.{Line}
-use Rattle.spec_model.specs.Limits.{max_block}
+use Rattle.law_frame.specs.Catalog.{Tables}
+use Rattle.law_frame.specs.Journals.{Line}
+use Rattle.law_frame.specs.Limits.{max_block}
 use Rattle.spec_history.specs.Journals.{ids_of}
 use Rattle.spec_history.specs.Meaning.{Meaning}
 

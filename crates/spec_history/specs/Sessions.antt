@@ -1,6 +1,6 @@
 -- A session, as what it did makes it.
 use Rattle.std.specs.Prelude.{ℕ, Bool, true, false, List, [], ◌∷◌, ◌++◌, Option, Some, None}
-use Rattle.spec_model.specs.Journals.{Line}
+use Rattle.law_frame.specs.Journals.{Line}
 use Rattle.spec_history.specs.Lists.{Text}
 use Rattle.spec_history.specs.Transcripts.{Entry, Transcript}
 use Rattle.spec_history.specs.Facts.{Fact}

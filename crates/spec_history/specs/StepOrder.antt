@@ -2,7 +2,7 @@
 use Rattle.std.specs.Prelude.{ℕ, suc, ◌≡◌, ◌+◌, ◌<◌, ◌==◌, if◌then◌else◌, Bool, true, false, List, [], ◌∷◌, ◌++◌, Option, None, take}
 use Rattle.sql_types.specs.declared.journal.JournalItem.{JournalItem}
 use Rattle.sql_types.specs.declared.journal.JournalItem.TheVariants.{Tx, Close}
-use Rattle.spec_model.specs.Journals.{tx_count}
+use Rattle.law_frame.specs.Journals.{tx_count}
 use Rattle.spec_history.specs.Lists.{Text, Each, At}
 use Rattle.spec_history.specs.Inputs.{InputLine}
 use Rattle.spec_history.specs.Journals.{in_blocks}

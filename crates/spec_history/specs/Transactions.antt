@@ -1,7 +1,7 @@
 -- The transactions of a transcript.
 use Rattle.std.specs.Prelude.{ℕ, Bool, true, false, List, [], ◌∷◌, ◌++◌, Option, Some, None}
 use Rattle.spec_history.specs.Lists.{Text}
-use Rattle.spec_model.specs.Journals.{Line}
+use Rattle.law_frame.specs.Journals.{Line}
 use Rattle.spec_history.specs.Facts.{Fact, began, said, failed, met, placed, passed, over}
 
 pub data End : Type 0 where

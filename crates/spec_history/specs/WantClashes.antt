@@ -2,8 +2,8 @@
 use Rattle.std.specs.Prelude.{ℕ, suc, ◌≡◌, ◌⊎◌, ◌≤◌, Bool, true, false, List, [], ◌∷◌, Option, Some, None}
 use Rattle.sql_types.specs.declared.journal.JournalItem.{JournalItem}
 use Rattle.sql_types.specs.declared.journal.JournalItem.TheVariants.{Tx}
-use Rattle.spec_model.specs.Catalog.{Tables, Defs}
-use Rattle.spec_model.specs.Journals.{Line, tx_count}
+use Rattle.law_frame.specs.Catalog.{Tables, Defs}
+use Rattle.law_frame.specs.Journals.{Line, tx_count}
 use Rattle.spec_history.specs.Lists.{Text, Each, Some_of, In}
 use Rattle.spec_history.specs.Journals.{nth_tx}
 use Rattle.spec_history.specs.Meaning.{Meaning}

@@ -1,6 +1,6 @@
 //! What is meant can be.
 
-ghost use Rattle.spec_model.specs.Script.{Reading};
+ghost use Rattle.law_frame.specs.Script.{Reading};
 ghost use Rattle.spec_history.specs.Meaning.{Meaning};
 ghost use Rattle.spec_history.specs.Real.{Hashing, IsReal};
 

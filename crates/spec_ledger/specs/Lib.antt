@@ -5,3 +5,7 @@ pub mod Parts
 pub use Rattle.format_event.specs.Leaf
 pub use Rattle.format_entry.specs.Entry
 pub use Rattle.format_entry.specs.TreeHash
+pub use Rattle.format_event.specs.LeafReading
+pub use Rattle.format_event.specs.TypedBytes
+pub use Rattle.format_entry.specs.EntryReading
+pub use Rattle.format_entry.specs.Record

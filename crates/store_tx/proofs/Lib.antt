@@ -6,3 +6,5 @@ mod Represented
 mod RootsMade
 mod Sorting
 mod Trees
+pub use Rattle.spec_protocol.proofs.LedgerNumbers
+pub use Rattle.spec_protocol.proofs.Roots

@@ -1,6 +1,6 @@
 use Rattle.std.proofs.Common.{arith}
 use Rattle.base_fields.proofs.Loops.{goes_on}
-use Rattle.format_entry.specs.Record.{record_at}
+use Rattle.spec_ledger.specs.Record.{record_at}
 use Rattle.format_image.proofs.read_ledger.some_blocks.Goals as goal
 
 pub loop-preserved : goal.loop-preserved

@@ -1,7 +1,7 @@
 use Rattle.std.proofs.Common.{◌≡◌, ◌-◌}
 use Rattle.base_fields.specs.Readers.{times}
 use Rattle.base_fields.proofs.Loops.{with_front}
-use Rattle.format_entry.specs.Record.{record_at}
+use Rattle.spec_ledger.specs.Record.{record_at}
 use Rattle.format_image.proofs.read_ledger.some_blocks.Given as goal
 
 abbrev pub invariant-loop : goal.invariant-loop

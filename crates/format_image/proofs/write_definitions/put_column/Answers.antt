@@ -1,4 +1,4 @@
-use Rattle.format_event.proofs.TypeLaws.{in_range_fits}
+use Rattle.spec_ledger.proofs.TypeLaws.{in_range_fits}
 use Rattle.format_image.proofs.DefExact.{proper_short}
 use Rattle.format_image.proofs.write_definitions.put_column.Goals as goal
 

@@ -1,5 +1,5 @@
 use Rattle.std.proofs.Common.{◌≡◌, ◌++◌, take, flat_map}
-use Rattle.format_entry.specs.Record.{record_bytes}
+use Rattle.spec_ledger.specs.Record.{record_bytes}
 use Rattle.format_image.proofs.writing.put_each_block.Given as goal
 
 abbrev pub invariant-loop-block : goal.invariant-loop-block
