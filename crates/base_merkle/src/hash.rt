@@ -1,12 +1,11 @@
 //! Hashes of 32 bytes, each a function of the bytes that are hashed.
 
-ghost use Rattle.std.specs.Prelude.{◌≡◌, ◌++◌, ℕ, List, IfOk, length, map};
+ghost use Rattle.std.specs.Prelude.{◌≡◌, ◌++◌, ℕ, List, length, map};
 ghost use Rattle.sha2.specs.Sha256.{sha256};
 ghost use Rattle.sha2.proofs.Facts256.{length-sha256};
 ghost use Rattle.base_sha256.specs.Messages.{bytes_of};
 
 use base_sha256::{Message, digest, digest_four};
-use std::alloc::{AllocError, Global};
 
 /// A hash function. Nothing but the length of its hashes is known of it, so whatever is proved over this
 /// trait holds for a weak hash too.
@@ -52,31 +51,4 @@ impl Hash32 for Sha256Hash {
     fn hash_four(&self, messages: &[Message; 4]) -> [[u8; 32]; 4] {
         digest_four(messages)
     }
-}
-
-/// The hashes of the messages, in their order. As many as can be are computed four at a time.
-pub fn hash_all<H: Hash32>(
-    alloc: Global,
-    hasher: H,
-    messages: &[Message],
-) -> Result<Vec<[u8; 32]>, AllocError>
-    ensures { IfOk result (λ hashes. hashes.items ≡ map (λ m. H.digest hasher (bytes_of m)) messages.now) }
-{
-    let mut hashes = Vec::with_capacity(alloc, messages.len())?;
-    let mut done = 0;
-    'fours: while messages.len() - done >= 4 {
-        let four = [
-            messages[done],
-            messages[done + 1],
-            messages[done + 2],
-            messages[done + 3],
-        ];
-        hashes.extend_from_slice(&hasher.hash_four(&four))?;
-        done += 4;
-    }
-    'rest: while done < messages.len() {
-        hashes.push(hasher.hash(messages[done].head, messages[done].rest))?;
-        done += 1;
-    }
-    Ok(hashes)
 }

@@ -4,14 +4,12 @@
 mod frontier;
 mod hash;
 mod law;
-mod leaves;
 mod level;
 mod node;
 
 pub use base_sha256::Message;
 pub use frontier::{Frontier, FrontierMark};
-pub use hash::{Hash32, Sha256Hash, hash_all};
+pub use hash::{Hash32, Sha256Hash};
 pub use law::{root_of_leaf, tree_hash_law};
-pub use leaves::{leaf_hashes, root_of_leaves};
 pub use level::{level_above, root_of_hashes};
 pub use node::{leaf_hash, node_hash};
