@@ -51,7 +51,13 @@ fn run_sections<H: Hash32, C: Clock, G: Gate, R: Threads + Wait + Sync>(
     ensures savable { IfOk result IsSavable }
     ensures refused { IfErr result (λ status. IsRefused section_form status input.now) }
 {
-    let all_sections = run_sections_of(alloc, input)?;
+    let all_sections = match run_sections_of(alloc, input) {
+        Ok(all_sections) => all_sections,
+        Err(status) => {
+            start.let_go();
+            return Err(status);
+        }
+    };
     let Start { database, cells } = start;
     let settings = Settings {
         block_size: settings.block_size,

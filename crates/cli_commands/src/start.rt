@@ -17,16 +17,24 @@ use base_io::{Source, Vault};
 use base_merkle::Hash32;
 use base_types::{Memory, Name};
 use cli_audit::{Past, Status, read_past, read_whole};
-use server_past::{Cell, past_cells};
+use server_past::{Cell, let_cells_go, let_past_go, past_cells};
 use std::alloc::Global;
 
-/// With what a run starts that goes on from a journal.
-#[derive(Drop)]
+/// With what a run starts that goes on from a journal. It isn't `Drop`, so that only `let_go` lets its cells go.
 pub(crate) struct Start {
     /// The name of the journal's database.
     pub database: Name,
     /// Those to which the journal leads.
     pub cells: Vec<Cell>,
+}
+
+impl Start {
+    /// Lets the start go, its cells by the crate that made them.
+    pub(crate) fn let_go(self) {
+        let Start { database, cells } = self;
+        drop(database);
+        let_cells_go(cells);
+    }
 }
 
 /// The start of a run that goes on from where a journal leads.
@@ -37,9 +45,16 @@ fn start_of(alloc: Global, past: Past, block_size: u32) -> Result<Start, Memory>
     ensures { (h : List ℕ → List ℕ) (J : Journal) → LeadsOn h block_size J past
         → IfOk result (λ start. StartsFrom h block_size J start.database start.cells.items) }
 {
-    let database = past.database.copy()?;
-    let cells = past_cells(alloc, past, block_size)?;
-    Ok(Start { database, cells })
+    match past.database.copy() {
+        Ok(database) => {
+            let cells = past_cells(alloc, past, block_size)?;
+            Ok(Start { database, cells })
+        }
+        Err(error) => {
+            let_past_go(past);
+            Err(error)
+        }
+    }
 }
 
 /// Runs the journal under a name again, and answers with what a run starts that goes on from it, in blocks of at most
@@ -106,6 +121,11 @@ pub(crate) fn start_and_read<H: Hash32, S: Source, V: Vault>(
         (V.faults vault.new ≡ V.faults vault.old) ⊤) }
 {
     let start = start_from(alloc, h, journal, block_size, vault)?;
-    let input = read_whole(alloc, source)?;
-    Ok((start, input))
+    match read_whole(alloc, source) {
+        Ok(input) => Ok((start, input)),
+        Err(status) => {
+            start.let_go();
+            Err(status)
+        }
+    }
 }

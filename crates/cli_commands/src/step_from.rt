@@ -47,7 +47,13 @@ fn run_input<H: Hash32, C: Clock>(
     ensures savable { IfOk result IsSavable }
     ensures refused { IfErr result (λ status. IsRefused line_form status input.now) }
 {
-    let read = statements(alloc, input)?;
+    let read = match statements(alloc, input) {
+        Ok(read) => read,
+        Err(status) => {
+            start.let_go();
+            return Err(status);
+        }
+    };
     let Start { database, cells } = start;
     let settings = Settings {
         block_size: settings.block_size,

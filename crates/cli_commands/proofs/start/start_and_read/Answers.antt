@@ -34,27 +34,22 @@ returns-in_err-start-clause-unfailed g c =
 
 -- the input isn't read to its end
 
-pub returns-in_err-input-clause-lacks : goal.returns-in_err-input-clause-lacks
-returns-in_err-input-clause-lacks g c =
-    let p = err_from_is_err_and c.from_residual-in_err-input.result c.from_residual-in_err-input.ensures.1 in
-    rw (p.1, p.2) (inr (started_under _ _ _ _ _ _ c.in_ok-start.ensures.starts, c.in_err-input.ensures.lacks))
+pub returns-in-Err-clause-lacks : goal.returns-in-Err-clause-lacks
+returns-in-Err-clause-lacks g c =
+    inr (started_under _ _ _ _ _ _ c.in_ok-start.ensures.starts, c.in-Err.ensures.lacks)
 
-pub returns-in_err-input-clause-read : goal.returns-in_err-input-clause-read
-returns-in_err-input-clause-read g c =
-    let p = err_from_is_err_and c.from_residual-in_err-input.result c.from_residual-in_err-input.ensures.1 in
-    rw (p.1, p.2) (unread_told _ _ _ _ c.in_err-input.field-0.0 c.in_err-input.ensures.lacks c.in_err-input.ensures.read)
+pub returns-in-Err-clause-read : goal.returns-in-Err-clause-read
+returns-in-Err-clause-read g c =
+    unread_told _ _ _ _ c.in-Err.status c.in-Err.ensures.lacks c.in-Err.ensures.read
 
-pub returns-in_err-input-clause-reads : goal.returns-in_err-input-clause-reads
-returns-in_err-input-clause-reads g c =
-    let p = err_from_is_err_and c.from_residual-in_err-input.result c.from_residual-in_err-input.ensures.1 in
-    rw (p.1, p.2) (unread_reads_behind _ _ c.in_err-input.field-0.0 c.in_err-input.ensures.lacks _ _ c.in_err-input.ensures.reads)
+pub returns-in-Err-clause-reads : goal.returns-in-Err-clause-reads
+returns-in-Err-clause-reads g c =
+    unread_reads_behind _ _ c.in-Err.status c.in-Err.ensures.lacks _ _ c.in-Err.ensures.reads
 
-pub returns-in_err-input-clause-gets : goal.returns-in_err-input-clause-gets
-returns-in_err-input-clause-gets g c =
-    let p = err_from_is_err_and c.from_residual-in_err-input.result c.from_residual-in_err-input.ensures.1 in
-    rw (p.1, p.2) (unread_gets_behind _ _ c.in_err-input.field-0.0 c.in_err-input.ensures.lacks _ _ _ c.in_ok-start.ensures.gave)
+pub returns-in-Err-clause-gets : goal.returns-in-Err-clause-gets
+returns-in-Err-clause-gets g c =
+    unread_gets_behind _ _ c.in-Err.status c.in-Err.ensures.lacks _ _ _ c.in_ok-start.ensures.gave
 
-pub returns-in_err-input-clause-unfailed : goal.returns-in_err-input-clause-unfailed
-returns-in_err-input-clause-unfailed g c =
-    let p = err_from_is_err_and c.from_residual-in_err-input.result c.from_residual-in_err-input.ensures.1 in
-    rw (p.1, p.2) (unread_unfailed _ _ c.in_err-input.field-0.0 c.in_err-input.ensures.lacks _ _ c.in_ok-start.ensures.calm c.in_err-input.ensures.unfailed)
+pub returns-in-Err-clause-unfailed : goal.returns-in-Err-clause-unfailed
+returns-in-Err-clause-unfailed g c =
+    unread_unfailed _ _ c.in-Err.status c.in-Err.ensures.lacks _ _ c.in_ok-start.ensures.calm c.in-Err.ensures.unfailed
