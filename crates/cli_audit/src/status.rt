@@ -6,7 +6,7 @@ ghost use Rattle.cli_audit.specs.Status.{code_of, text_of};
 use std::fmt;
 
 /// How a call of the server ends. Each but `Done` and `Memory` has its cause in the contract of the top call.
-#[derive(Clone, Copy, Debug, PartialEq, Eq)]
+#[derive(Clone, Copy, PartialEq, Eq)]
 pub enum Status {
     /// The command did its work, and `verify` said Yes.
     Done,

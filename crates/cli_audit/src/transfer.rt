@@ -17,7 +17,7 @@ pub const INPUT_LIMIT: usize = 4194304;
 const PIECE: usize = 4096;
 
 /// Why an input wasn't read to its end.
-#[derive(Clone, Copy, Debug, PartialEq, Eq)]
+#[derive(Clone, Copy)]
 pub enum ReadErr {
     /// There was no more memory.
     Memory,

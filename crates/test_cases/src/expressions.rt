@@ -117,7 +117,7 @@ fn over_table(alloc: Global, e: &Expr, page: &mut Page) -> Result<(), Fault> {
     put
 }
 
-fn of_condition(alloc: Global, found: Option<&Stmt>, page: &mut Page) -> Result<(), Fault> {
+fn of_condition(alloc: Global, found: &Option<Stmt>, page: &mut Page) -> Result<(), Fault> {
     match found {
         Some(Stmt::Change(RowStmt::Delete { cond: Some(e), .. })) => over_table(alloc, e, page),
         _ => {
@@ -131,7 +131,9 @@ fn of_condition(alloc: Global, found: Option<&Stmt>, page: &mut Page) -> Result<
 /// which it has no class. The expression is the condition of a DELETE with this text behind WHERE.
 pub fn evaluated(alloc: Global, text: &str, page: &mut Page) -> Result<(), Fault> {
     let found = joined_statement(alloc, "DELETE t WHERE ", text, "")?;
-    of_condition(alloc, found.statement(), page)
+    let put = of_condition(alloc, &found, page);
+    drop(found);
+    put
 }
 
 /// An operand of each class: number without a point and with one, text, bytes, date, NULL and truth.

@@ -85,7 +85,7 @@ fn over_table(alloc: Global, q: &Select, page: &mut Page) -> Result<(), Fault> {
     put
 }
 
-fn of_select(alloc: Global, found: Option<&Stmt>, page: &mut Page) -> Result<(), Fault> {
+fn of_select(alloc: Global, found: &Option<Stmt>, page: &mut Page) -> Result<(), Fault> {
     match found {
         Some(Stmt::Select(q)) => over_table(alloc, q, page),
         _ => {
@@ -98,7 +98,9 @@ fn of_select(alloc: Global, found: Option<&Stmt>, page: &mut Page) -> Result<(),
 /// The rows that a SELECT shows: the values with `|` between them, each row ended by `;`.
 pub fn selected(alloc: Global, text: &str, page: &mut Page) -> Result<(), Fault> {
     let found = joined_statement(alloc, "SELECT ", text, "")?;
-    of_select(alloc, found.statement(), page)
+    let put = of_select(alloc, &found, page);
+    drop(found);
+    put
 }
 
 /// A table whose last column was added.
@@ -160,14 +162,20 @@ fn over_versions(alloc: Global, q: &Select, page: &mut Page) -> Result<(), Fault
     put
 }
 
-/// The rows that a SELECT shows of versions with fewer values than their table has columns.
-pub fn selected_short(alloc: Global, text: &str, page: &mut Page) -> Result<(), Fault> {
-    let found = joined_statement(alloc, "SELECT ", text, "")?;
-    match found.statement() {
+fn of_short(alloc: Global, found: &Option<Stmt>, page: &mut Page) -> Result<(), Fault> {
+    match found {
         Some(Stmt::Select(q)) => over_versions(alloc, q, page),
         _ => {
             page.put("no statement");
             Ok(())
         }
     }
+}
+
+/// The rows that a SELECT shows of versions with fewer values than their table has columns.
+pub fn selected_short(alloc: Global, text: &str, page: &mut Page) -> Result<(), Fault> {
+    let found = joined_statement(alloc, "SELECT ", text, "")?;
+    let put = of_short(alloc, &found, page);
+    drop(found);
+    put
 }

@@ -3,7 +3,6 @@
 use crate::fault::Fault;
 use crate::page::Page;
 use crate::texts::{split_at_bar, text_of};
-use base_types::Boxed;
 use format_lines::{InputErr, Line, read_lines, session_names};
 use spec_syntax::ParseErr;
 use sql_lex::{Kind, LexErr, Token, tokens};
@@ -59,43 +58,21 @@ pub fn cut_up(alloc: Global, text: &str, page: &mut Page) -> Result<(), Fault> {
 }
 
 /// The statement that a text is, or nothing where it is none.
-#[derive(Drop)]
-pub struct Found {
-    statement: Option<Boxed<Stmt>>,
-}
-
-impl Found {
-    pub fn statement(&self) -> Option<&Stmt> {
-        match &self.statement {
-            Some(statement) => Some(statement.get()),
-            None => None,
-        }
-    }
-}
-
-fn boxed(alloc: Global, statement: Stmt) -> Result<Found, Fault> {
-    let statement = Boxed::new(alloc, statement)?;
-    Ok(Found {
-        statement: Some(statement),
-    })
-}
-
-/// What a text is as a statement.
-pub fn statement(alloc: Global, text: &str) -> Result<Found, Fault> {
+pub fn statement(alloc: Global, text: &str) -> Result<Option<Stmt>, Fault> {
     match parse_any(alloc, text) {
-        Ok(statement) => boxed(alloc, statement),
-        Err(ParseErr::Syntax) => Ok(Found { statement: None }),
+        Ok(statement) => Ok(Some(statement)),
+        Err(ParseErr::Syntax) => Ok(None),
         Err(ParseErr::Memory) => Err(Fault::Memory),
     }
 }
 
-/// What three texts are as a statement, one behind the other.
+/// The statement that three texts are, one behind the other.
 pub fn joined_statement(
     alloc: Global,
     front: &str,
     middle: &str,
     back: &str,
-) -> Result<Found, Fault> {
+) -> Result<Option<Stmt>, Fault> {
     let mut page = Page::new(alloc);
     page.put(front);
     page.put(middle);
@@ -103,7 +80,7 @@ pub fn joined_statement(
     statement(alloc, page.text()?)
 }
 
-fn found_printed(alloc: Global, found: Option<&Stmt>) -> Result<Option<Vec<u8>>, Fault> {
+fn found_printed(alloc: Global, found: &Option<Stmt>) -> Result<Option<Vec<u8>>, Fault> {
     match found {
         Some(statement) => Ok(Some(print(alloc, statement)?)),
         None => Ok(None),
@@ -113,7 +90,10 @@ fn found_printed(alloc: Global, found: Option<&Stmt>) -> Result<Option<Vec<u8>>,
 /// What is printed of the statement that a text is.
 fn printed(alloc: Global, text: &str) -> Result<Option<Vec<u8>>, Fault> {
     let found = statement(alloc, text)?;
-    found_printed(alloc, found.statement())
+    let printed = found_printed(alloc, &found);
+    // `drop` lets each type go by a function of its own, which is proved once
+    drop(found);
+    printed
 }
 
 fn is_text(found: &Option<Vec<u8>>, text: &[u8]) -> bool {
@@ -204,7 +184,7 @@ fn form_of(statement: &Stmt) -> &'static str {
     }
 }
 
-fn form_found(found: Option<&Stmt>) -> &'static str {
+fn form_found(found: &Option<Stmt>) -> &'static str {
     match found {
         Some(statement) => form_of(statement),
         None => "no statement",
@@ -214,7 +194,9 @@ fn form_found(found: Option<&Stmt>) -> &'static str {
 /// The form of the statement that three texts are, one behind the other.
 fn form_shown(alloc: Global, front: &str, middle: &str, back: &str) -> Result<&'static str, Fault> {
     let found = joined_statement(alloc, front, middle, back)?;
-    Ok(form_found(found.statement()))
+    let form = form_found(&found);
+    drop(found);
+    Ok(form)
 }
 
 /// The form of the statement that a text is.

@@ -3,51 +3,27 @@
 use crate::fault::Fault;
 use crate::statements::statement;
 use base_types::{Items, Name};
+use sql_parts::copy_columns;
 use sql_types::{CreateTable, Row, RowStmt, Stmt, TableDef};
-use sql_value::{ColumnDef, TableKind, Value};
+use sql_value::Value;
 use std::alloc::Global;
 
-fn put_columns(columns: &[ColumnDef], copies: &mut Items<ColumnDef>) -> Result<(), Fault> {
-    for column in columns {
-        copies.push(column.copy()?)?;
-    }
-    Ok(())
-}
-
-fn columns_of(alloc: Global, columns: &[ColumnDef]) -> Result<Items<ColumnDef>, Fault> {
-    let mut copies = Items::new(alloc);
-    put_columns(columns, &mut copies)?;
-    Ok(copies)
-}
-
-/// A table of this name with these columns.
-fn def_with(
-    alloc: Global,
-    name: Name,
-    kind: TableKind,
-    columns: Items<ColumnDef>,
-) -> Result<TableDef, Fault> {
-    let history = Name::of_str(alloc, "")?;
-    let view = Name::of_str(alloc, "")?;
+/// The table of this name with these columns.
+fn def_of(alloc: Global, table: &CreateTable) -> Result<TableDef, Fault> {
     Ok(TableDef {
         id: 3,
-        name,
-        kind,
+        name: table.name.copy()?,
+        kind: table.kind,
         gone: false,
-        history,
-        view,
-        columns,
+        history: Name::of_str(alloc, "")?,
+        view: Name::of_str(alloc, "")?,
+        columns: copy_columns(alloc, table.columns.as_slice())?,
         dropped: Items::new(alloc),
         indexes: Items::new(alloc),
     })
 }
 
-fn def_of(alloc: Global, table: &CreateTable) -> Result<TableDef, Fault> {
-    let columns = columns_of(alloc, table.columns.as_slice())?;
-    def_with(alloc, table.name.copy()?, table.kind, columns)
-}
-
-fn def_in(alloc: Global, found: Option<&Stmt>) -> Result<TableDef, Fault> {
+fn def_in(alloc: Global, found: &Option<Stmt>) -> Result<TableDef, Fault> {
     match found {
         Some(Stmt::Create(table)) => def_of(alloc, table),
         _ => Err(Fault::Form("a table is wanted")),
@@ -57,7 +33,10 @@ fn def_in(alloc: Global, found: Option<&Stmt>) -> Result<TableDef, Fault> {
 /// The table that a CREATE TABLE declares.
 pub fn table_of(alloc: Global, text: &str) -> Result<TableDef, Fault> {
     let found = statement(alloc, text)?;
-    def_in(alloc, found.statement())
+    let def = def_in(alloc, &found);
+    // `drop` lets each type go by a function of its own, which is proved once
+    drop(found);
+    def
 }
 
 fn put_values(row: &[Value], copies: &mut Row) -> Result<(), Fault> {
@@ -86,7 +65,7 @@ fn copied(alloc: Global, rows: &[Row]) -> Result<Items<Row>, Fault> {
     Ok(copies)
 }
 
-fn rows_in(alloc: Global, found: Option<&Stmt>) -> Result<Items<Row>, Fault> {
+fn rows_in(alloc: Global, found: &Option<Stmt>) -> Result<Items<Row>, Fault> {
     match found {
         Some(Stmt::Change(RowStmt::Insert { rows, .. })) => copied(alloc, rows.as_slice()),
         _ => Err(Fault::Form("rows are wanted")),
@@ -96,5 +75,7 @@ fn rows_in(alloc: Global, found: Option<&Stmt>) -> Result<Items<Row>, Fault> {
 /// The rows that an INSERT lists.
 pub fn rows_of(alloc: Global, text: &str) -> Result<Items<Row>, Fault> {
     let found = statement(alloc, text)?;
-    rows_in(alloc, found.statement())
+    let rows = rows_in(alloc, &found);
+    drop(found);
+    rows
 }

@@ -51,11 +51,28 @@ pub fn run_on_both(
     sink: &mut MemSink,
 ) -> Result<Status, AllocError> {
     let alloc = rt.alloc();
-    let mut vault = MemVault::new(alloc, Vec::new(alloc));
-    if put_both(&mut vault, a, b).is_err() {
-        return Ok(Status::VaultFault);
-    }
     let words = words_of(alloc, line)?;
+    let mut vault = MemVault::new(alloc, Vec::new(alloc));
+    let status = if put_both(&mut vault, a, b).is_ok() {
+        run_without_input(rt, &words, sink, &mut vault)
+    } else {
+        Status::VaultFault
+    };
+    // `drop` lets each type go by a function of its own, which is proved once
+    drop(vault);
+    drop(words);
+    Ok(status)
+}
+
+fn run_without_input(
+    rt: &impl Machine,
+    words: &[String],
+    sink: &mut MemSink,
+    vault: &mut MemVault,
+) -> Status {
+    let alloc = rt.alloc();
     let mut source = MemSource::new(Vec::new(alloc), 1, Vec::new(alloc));
-    Ok(run_command(rt, &words, &mut source, sink, &mut vault, 0))
+    let status = run_command(rt, words, &mut source, sink, vault, 0);
+    drop(source);
+    status
 }

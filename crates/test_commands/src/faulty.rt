@@ -19,6 +19,7 @@ fn vault_of(rt: &impl Machine, fails: Vec<u64>, names: &[String]) -> MemVault {
             let _ = vault.put(name.as_str(), &bytes);
         }
     }
+    drop(folder);
     vault
 }
 
@@ -66,5 +67,11 @@ pub fn run_over_memory(
     let mut sink = MemSink::new(rt.alloc(), piece, sink);
     let mut vault = vault_of(rt, vault, &names);
     let status = run_command(rt, words, &mut source, &mut sink, &mut vault, setting.clock);
-    print_end(rt, status, sink.bytes(), &mut vault, &names)
+    let printed = print_end(rt, status, sink.bytes(), &mut vault, &names);
+    // `drop` lets each type go by a function of its own, which is proved once
+    drop(vault);
+    drop(sink);
+    drop(source);
+    drop(names);
+    printed
 }

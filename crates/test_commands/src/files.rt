@@ -86,8 +86,11 @@ pub fn count_cuts<V: Vault>(
 /// Whether `verify` answers `No V0` to the bytes, with no digests.
 fn is_no_image(rt: &impl Machine, alloc: Global, bytes: &[u8]) -> Result<bool, AllocError> {
     let mut sink = MemSink::new(alloc, 64, Vec::new(alloc));
-    let status = run_on_both(rt, "verify a b", bytes, b"[]", &mut sink)?;
-    Ok(status == Status::No && sink.bytes() == b"No V0\n".as_slice())
+    let status = run_on_both(rt, "verify a b", bytes, b"[]", &mut sink);
+    let says_no = sink.bytes() == b"No V0\n".as_slice();
+    // `drop` lets each type go by a function of its own, which is proved once
+    drop(sink);
+    Ok(status? == Status::No && says_no)
 }
 
 /// Prints the bytes of a name in hexadecimal digits, or that there is none.

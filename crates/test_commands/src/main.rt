@@ -43,7 +43,12 @@ fn run_over_folder(rt: &impl Machine, setting: &mut CommandSetup, words: &[Strin
     let mut source = MemSource::new(setting.take_input(alloc), 4096, Vec::new(alloc));
     let mut sink = StdoutSink::new(io::writer(rt));
     let mut vault = FolderVault::new(*rt);
-    run_command(rt, words, &mut source, &mut sink, &mut vault, setting.clock)
+    let status = run_command(rt, words, &mut source, &mut sink, &mut vault, setting.clock);
+    // `drop` lets each type go by a function of its own, which is proved once
+    drop(vault);
+    drop(sink);
+    drop(source);
+    status
 }
 
 fn print_status(rt: &impl Machine, status: Status) -> io::Result<()> {
@@ -127,7 +132,10 @@ fn answer_words<V: Vault>(
 fn answer(rt: &impl Machine, setting: &mut CommandSetup, line: &str) -> io::Result<()> {
     let words = words_of(rt.alloc(), line)?;
     let mut folder = FolderVault::new(*rt);
-    answer_words(rt, setting, &mut folder, &words, line)
+    let answered = answer_words(rt, setting, &mut folder, &words, line);
+    drop(folder);
+    drop(words);
+    answered
 }
 
 /// Prints a line, and does what it says; a command forgets what it was to be run with.

@@ -1,5 +1,6 @@
 //! What the next command is run with.
 
+use crate::call::words_of;
 use hex::FromHexError;
 use std::alloc::{AllocError, Global};
 use std::mem;
@@ -37,7 +38,8 @@ impl CommandSetup {
 
     /// All that was set is forgotten.
     pub fn reset(&mut self, alloc: Global) {
-        *self = CommandSetup::new(alloc);
+        // `drop` lets each type go by a function of its own, which is proved once
+        drop(mem::replace(self, CommandSetup::new(alloc)));
     }
 
     /// The input, of which none is left.
@@ -82,30 +84,42 @@ impl CommandSetup {
     /// numbers between commas, or `-`; the sink takes at most so many bytes at a time. Answers whether it was
     /// done.
     pub fn set_faults(&mut self, alloc: Global, words: &str) -> Result<bool, AllocError> {
-        let mut words = words.split(' ');
-        let (Some(source), Some(vault), Some(sink), Some(piece)) = (
-            words.next(),
-            words.next(),
-            words.next(),
-            words.next(),
-        ) else {
-            return Ok(false);
-        };
-        let Ok(piece) = piece.parse::<usize>() else {
-            return Ok(false);
-        };
-        let mut names = Vec::new(alloc);
-        for name in words {
-            names.push(String::from_str(alloc, name)?)?;
+        let faults = faults_of(alloc, words)?;
+        let is_set = faults.is_some();
+        if is_set {
+            drop(mem::replace(&mut self.faults, faults));
         }
-        self.faults = Some(Faults {
-            source: numbers_of(alloc, source)?,
-            vault: numbers_of(alloc, vault)?,
-            sink: numbers_of(alloc, sink)?,
-            piece,
-            names,
-        });
-        Ok(true)
+        Ok(is_set)
+    }
+}
+
+/// The faults that these words say, if they do.
+fn faults_of(alloc: Global, words: &str) -> Result<Option<Faults>, AllocError> {
+    let mut words = words.splitn(5, ' ');
+    let (Some(source), Some(vault), Some(sink), Some(piece)) = (
+        words.next(),
+        words.next(),
+        words.next(),
+        words.next(),
+    ) else {
+        return Ok(None);
+    };
+    let Ok(piece) = piece.parse::<usize>() else {
+        return Ok(None);
+    };
+    Ok(Some(Faults {
+        source: numbers_of(alloc, source)?,
+        vault: numbers_of(alloc, vault)?,
+        sink: numbers_of(alloc, sink)?,
+        piece,
+        names: names_of(alloc, words.next())?,
+    }))
+}
+
+fn names_of(alloc: Global, names: Option<&str>) -> Result<Vec<String>, AllocError> {
+    match names {
+        Some(names) => words_of(alloc, names),
+        None => Ok(Vec::new(alloc)),
     }
 }
 
