@@ -1,4 +1,4 @@
-"""Forges images: alters one at random, and makes some of what stands above the change anew by docs/FORMATS.md."""
+"""Forges images: alters one at random, and makes some of what is above the change anew (docs/reference/formats.md)."""
 
 import collections
 import contextlib

@@ -1,4 +1,4 @@
-"""Makes up images by docs/FORMATS.md with all the hashes that `verify` asks for, as large as an image may be.
+"""Makes up images by docs/reference/formats.md with all the hashes that `verify` asks for, as large as an image may be.
 
 What `ledgerd` wouldn't make itself can be made here. Rows are bytes from the beginning, so that millions take a minute.
 """

@@ -5,9 +5,10 @@
 
 Some images and digest files have a few of their bytes changed. Other images are forged: values, rows, columns, entries
 or blocks are altered, and of what stands above the change (index rows, the system's rows, roots, blocks, digests) some
-is made anew by docs/FORMATS.md. Where PROGRAM, a built ledgerd, makes receipts, one file in ten is a receipt with bytes
-changed, which `ledgerd check` and `tools/check_receipt.py` judge. 10,000 files take some minutes. The last line is 'N
-of M agree', behind how often each answer came, and the status 1 where N isn't M. What disagrees is kept in FOLDER.
+is made anew by docs/reference/formats.md. Where PROGRAM, a built ledgerd, makes receipts, one file in ten is a receipt
+with bytes changed, which `ledgerd check` and `tools/check_receipt.py` judge. 10,000 files take some minutes. The last
+line is 'N of M agree', after how often each answer came, and the status 1 where N isn't M. What disagrees is kept in
+FOLDER.
 """
 
 import argparse

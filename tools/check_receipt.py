@@ -4,9 +4,9 @@
     tools/check_receipt.py RECEIPT DIGESTS
 
 Writes `Yes` (status 0) or `No receipt` (1), and on standard error what the receipt shows or lacks. The status is
-15 where the bytes have no receipt's form, 8 where the digests can't be read, 7 where a file can't. This file stands
-alone, and is written from docs/FORMATS.md alone (sections "Receipt", "Receipts of rows" and "Chain"). Of the events
-that a receipt shows it looks at the heads alone, and not at their values.
+15 where the bytes have no receipt's form, 8 where the digests can't be read, 7 where a file can't. This file needs no
+other, and is written from docs/reference/formats.md alone (sections "Receipt", "Receipts of rows" and "Chain"). Of the
+events that a receipt shows it looks at the heads alone, and not at their values.
 """
 
 import hashlib

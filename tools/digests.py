@@ -1,4 +1,4 @@
-"""Digest files of ledgerd, read by docs/FORMATS.md alone (section "Digest file")."""
+"""Digest files of ledgerd, read by docs/reference/formats.md alone (section "Digest file")."""
 
 import json
 import re

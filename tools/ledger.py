@@ -1,4 +1,4 @@
-"""Images and journals of ledgerd, read by docs/FORMATS.md alone; sections named here are those of that page.
+"""Images and journals of ledgerd, read by docs/reference/formats.md alone; sections named here are those of that page.
 
 `tools/verify.py` and `tools/show.py` stand on this module.
 """

@@ -1,5 +1,5 @@
 #!/usr/bin/env python3
-"""Shows what an image or a journal of ledgerd holds, by docs/FORMATS.md.
+"""Shows what an image or a journal of ledgerd holds, by docs/reference/formats.md.
 
     tools/show.py IMAGE                 the tables with their definitions, the transactions, the blocks
     tools/show.py IMAGE --rows          besides, live and ended rows with their events, the system's tables too
@@ -36,7 +36,7 @@ def type_text(it: Type) -> str:
 
 
 def value_text(value: Optional[Value], quoted: bool = True) -> str:
-    """A value as transcripts write it (docs/SQL.md, "Values and types"), or without its quotes."""
+    """A value as transcripts write it (docs/reference/sql.md, "Values and types"), or without its quotes."""
     if value is None:
         return "NULL" if quoted else ""
     code, data = value.type.code, value.data

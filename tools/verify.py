@@ -1,9 +1,9 @@
 #!/usr/bin/env python3
-"""Judges an image and digests as `ledgerd verify` does, by docs/FORMATS.md alone.
+"""Judges an image and digests as `ledgerd verify` does, by docs/reference/formats.md and verdicts.md alone.
 
     tools/verify.py IMAGE DIGESTS
 
-Writes the line of section "Verdict", and ends with the exit status of `ledgerd verify` (docs/AUDIT.md).
+Writes the line of the page on verdicts, and ends with the exit status of `ledgerd verify`.
 """
 
 import sys
