@@ -3,7 +3,7 @@
 
     gate.py [--table FILE] [COMMAND ..]
 
-Runs the command, or ./test, and looks twice a second at the processes below it. At the end it writes a table to FILE,
+Runs the command, or ./prove, and looks twice a second at the processes below it. At the end it writes a table to FILE,
 or out/gate.md: the processor minutes of each crate's proofs, tests and edits, the most memory that one of its processes
 held, and the minutes at which the crate was begun and ended. What follows the last look at a process counts for no crate."""
 import os
@@ -132,7 +132,7 @@ def main(words):
     if words == ["--table"]:
         sys.exit("gate.py: --table wants a file")
     file, words = (words[1], words[2:]) if words[:1] == ["--table"] else (f"{TOP}/out/gate.md", words)
-    words, began = words or [f"{TOP}/test"], time.monotonic()
+    words, began = words or [f"{TOP}/prove"], time.monotonic()
     ran = subprocess.Popen(words)
     # (Ctrl-C reaches the command too; either way the table tells of what was seen)
     signal.signal(signal.SIGINT, signal.SIG_IGN)
