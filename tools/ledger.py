@@ -364,6 +364,25 @@ def system_definitions() -> list[Definition]:
     return [defined(TABLES, "sys_ledger_tables", tables, 2), defined(COLUMNS, "sys_ledger_columns", columns, 3)]
 
 
+def all_definitions(image: Image) -> list[Definition]:
+    """Those of the system's tables, and those of the image."""
+    return [*system_definitions(), *image.definitions]
+
+
+class NoSuchTable(Exception):
+    """Why a word names no table, or more than one."""
+
+
+def table_named(image: Image, word: str) -> Definition:
+    """The table with this id, or with this name. A name of digits alone is written in brackets."""
+    is_id = re.fullmatch("[0-9]+", word) is not None
+    name = word[1:-1] if word.startswith("[") and word.endswith("]") else word
+    found = [it for it in all_definitions(image) if (it.id == int(word) if is_id else it.name == name)]
+    if len(found) != 1:
+        raise NoSuchTable(f"{len(found) or 'no'} tables are named {word}" if found else f"there is no table {word}")
+    return found[0]
+
+
 def read_rows(source: Reader, indexes: int) -> Rows:
     base = [Version(read_event_id(source), None, read_values(source)) for _ in range(source.number(8))]
     history = [

@@ -3,26 +3,30 @@
 
     tools/show.py IMAGE                 the tables with their definitions, the transactions, the blocks
     tools/show.py IMAGE --rows          besides, live and ended rows with their events, the system's tables too
-    tools/show.py IMAGE --csv TABLE     the live rows of a table (its id or its name), as CSV
+    tools/show.py IMAGE --csv TABLE     the live rows of a table, as CSV, without its dropped columns
     tools/show.py IMAGE --json          all tables with live and ended rows, as JSON
     tools/show.py IMAGE --why 'No V5 transaction 2 table 3'
                                         what a line of `verify` speaks of
     tools/show.py JOURNAL               the transactions with their statements and replies, and where blocks were closed
 
-Ends with status 1 where the bytes are neither, and 2 where the words are none of these.
+TABLE is an id or a name; a name of digits alone is written in brackets, as [4].
+
+The exit status is 2 if the words are none of these, 3 if a file has more than 256 MiB, 6 if it can't be read, 7 if it
+isn't there, 11 if it is neither an image nor a journal, and 14 if the image has no such table or place.
 """
 
 import datetime
 import json
 import re
-import signal
-import sys
+from collections import Counter
 from typing import Iterator, Optional
 
 import verify
+from command import NO_ENTRY, NOT_IMAGE, USAGE, Ended, read_file, run, write_lines
 from ledger import (
     APPEND_ONLY, COLUMNS, DATE, DECIMAL, NVARCHAR, TABLES, VARBINARY, Column, Definition, Entry, EventId, Image,
-    Malformed, Type, Value, Values, Version, read_image, read_journal, signed, system_definitions, tree_hash,
+    Malformed, NoSuchTable, Type, Value, Values, Version, all_definitions, read_image, read_journal, signed, table_named,
+    tree_hash,
 )
 
 TYPE_NAMES = ("?", "BIT", "INT", "BIGINT", "DECIMAL", "NVARCHAR", "VARBINARY", "DATE")
@@ -71,10 +75,6 @@ def version_text(it: Version) -> str:
 # --- An image --------------------------------------------------------------------------------------------------------
 
 
-def all_definitions(image: Image) -> list[Definition]:
-    return [*system_definitions(), *image.definitions]
-
-
 def image_lines(image: Image, has_rows: bool) -> Iterator[str]:
     yield f"database {image.database}"
     for definition in all_definitions(image) if has_rows else image.definitions:
@@ -108,25 +108,23 @@ def entry_text(image: Image, it: Entry) -> str:
     return f"transaction {it.id}: {moment_text(it.time)} by {it.session}, {block} at {it.ordinal}, tables {tables}"
 
 
-def table_named(image: Image, name: str) -> Definition:
-    for it in all_definitions(image):
-        if name in (str(it.id), it.name):
-            return it
-    raise SystemExit(f"show.py: there is no table {name}")
-
-
 def csv_lines(image: Image, definition: Definition) -> Iterator[str]:
-    """RFC 4180, with names and texts in quotes, so that an empty text is told from NULL, which is nothing."""
+    """RFC 4180. Each text is in quotes, so that it is told from NULL, which is nothing, and from a number."""
+    shown = [(place, column) for place, column in enumerate(definition.columns) if not column.dropped]
 
     def field(value: Optional[Value]) -> str:
         text = value_text(value, quoted=False)
         return quoted(text) if value is not None and value.type.code == NVARCHAR else text
 
+    def heading(name: str) -> str:
+        return quoted(name) if re.search(r'[",\r\n]|^ | $', name) else name
+
     def quoted(text: str) -> str:
         return '"' + text.replace('"', '""') + '"'
 
-    yield ",".join(quoted(column.name) for column in definition.columns)
-    yield from (",".join(map(field, it.values)) for it in image.rows[definition.id].base)
+    yield ",".join(heading(column.name) for _, column in shown)
+    for version in image.rows[definition.id].base:
+        yield ",".join(field(value) for value in verify.picked(version, [place for place, _ in shown]))
 
 
 def as_json(image: Image) -> dict:
@@ -144,8 +142,10 @@ def as_json(image: Image) -> dict:
         ended = {"ended": list(it.end)} if it.end else {}
         return {"started": list(it.start), **ended, "values": dict(zip(names, map(plain, it.values)))}
 
+    named = Counter(it.name for it in all_definitions(image))
     return {
-        it.name: [row(it.columns, version) for version in image.rows[it.id].base + image.rows[it.id].history]
+        it.name if named[it.name] == 1 else f"{it.name} [{it.id}]":
+            [row(it.columns, version) for version in image.rows[it.id].base + image.rows[it.id].history]
         for it in all_definitions(image)
     }
 
@@ -163,7 +163,7 @@ def why_lines(image: Image, line: str) -> Iterator[str]:
         "table _ index _": why_index,
     }.get(words)
     if shower is None:
-        raise SystemExit(f"show.py: {line!r} is no line of verify with a place")
+        raise Ended(USAGE, f"{line!r} is no line of verify with a place")
     yield from shower(image, *numbers)
 
 
@@ -227,30 +227,39 @@ def why_root(image: Image, id: int, table: int) -> Iterator[str]:
 
 
 def why_table(image: Image, table: int) -> Iterator[str]:
-    """The rows of the system's tables about it, and those of its definition."""
+    """Of the rows of the system's tables about it those that count and say something else than its definition."""
     own = [it for it in image.definitions if it.id == table]
     for it in own:
         yield from definition_lines(it)
     tables = [verify.table_row(it) for it in own]
     items = [row for it in own for row in verify.item_rows(it)]
-    for system, wanted in ((TABLES, tables), (COLUMNS, items)):
-        found = verify.by_table(image.rows[system].base).get(table, [])
-        yield from (f"in table {system}, not of the definition: {row_text(row)}" for row in found if row not in wanted)
-        yield from (f"not in table {system}, of the definition: {row_text(row)}" for row in wanted if row not in found)
+    for system, thing, wanted in ((TABLES, 0, tables), (COLUMNS, 1, items)):
+        about = verify.by_table(image.rows[system].base).get(table, [])
+        found = {verify.without_change(row, thing): row for row in verify.latest(about, thing)}
+        yield from differing(f"table {system}", "the definition", found, {row: row for row in wanted})
     if own and not verify.keeps_rules(own[0]):
         yield "the definition breaks a rule that CREATE keeps"
     if own and verify.has_old_name(own[0], verify.by_table(image.rows[TABLES].base)):
         yield "a name of it is taken by a table with a lower id or by the system"
 
 
+def differing(here: str, there: str, found: dict[Values, Values], wanted: dict[Values, Values]) -> Iterator[str]:
+    """What is in one place and not in the other; what is compared, and what is shown of it."""
+    yield from (f"in {here}, not of {there}: {row_text(found[it])}" for it in found if it not in wanted)
+    yield from (f"not in {here}, of {there}: {row_text(wanted[it])}" for it in wanted if it not in found)
+
+
 def why_index(image: Image, table: int, place: int) -> Iterator[str]:
     definition = table_named(image, str(table))
     found, wanted = image.rows[table].indexes[place - 1], verify.index_rows(image, definition, place - 1)
     yield from definition_lines(definition)
-    yield from (f"in the index, not of the table: {row_text(row)}" for row in found if row not in wanted)
-    yield from (f"not in the index, of the table: {row_text(row)}" for row in wanted if row not in found)
-    if sorted(map(str, found)) == sorted(map(str, wanted)):
+    yield from differing("the index", "the table", {row: row for row in found}, {row: row for row in wanted})
+    there, here = Counter(wanted), Counter(found)
+    if there == here:
         yield "the rows are those of the table, in another order"
+    for row in here:
+        if here[row] != there[row] and row in there:
+            yield f"{here[row]} times in the index, {there[row]} times in the table: {row_text(row)}"
 
 
 # --- A journal -------------------------------------------------------------------------------------------------------
@@ -285,25 +294,21 @@ def lines_of(data: bytes, option: Optional[str], word: str) -> Iterator[str]:
 
 def main(words: list[str]) -> int:
     option, rest = words[1] if words[1:] else None, words[2:]
-    if not words or len(rest) != {None: 0, "--rows": 0, "--json": 0, "--csv": 1, "--why": 1}.get(option):
-        print(__doc__, file=sys.stderr)
-        return 2
-    try:
-        with open(words[0], "rb") as file:
-            data = file.read()
-        for line in lines_of(data, option, "".join(rest)):
-            print(line)
-    except Malformed as error:
-        print(f"show.py: neither an image nor a journal: {error}", file=sys.stderr)
-    except (IndexError, KeyError):
-        print("show.py: the image has no such place", file=sys.stderr)
-    except OSError as error:
-        print(f"show.py: {error}", file=sys.stderr)
-    else:
+    if words[:1] == ["--help"]:
+        write_lines(iter([__doc__]))
         return 0
-    return 1
+    if not words or len(rest) != {None: 0, "--rows": 0, "--json": 0, "--csv": 1, "--why": 1}.get(option):
+        raise Ended(USAGE, "show.py IMAGE [--rows | --csv TABLE | --json | --why LINE], or JOURNAL; --help says more")
+    try:
+        write_lines(lines_of(read_file(words[0]), option, "".join(rest)))
+    except Malformed as error:
+        raise Ended(NOT_IMAGE, f"{words[0]} is neither an image nor a journal: {error}") from error
+    except NoSuchTable as error:
+        raise Ended(NO_ENTRY, f"{words[0]}: {error}") from error
+    except (IndexError, KeyError) as error:
+        raise Ended(NO_ENTRY, f"{words[0]} has no such place") from error
+    return 0
 
 
 if __name__ == "__main__":
-    signal.signal(signal.SIGPIPE, signal.SIG_DFL)
-    sys.exit(main(sys.argv[1:]))
+    run("show.py", main)
