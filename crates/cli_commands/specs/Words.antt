@@ -1,8 +1,7 @@
 -- What is so of the command that words say.
 use Rattle.std.specs.Prelude.{ℕ, Bool, true, false, List, Option, Some, None}
 use Rattle.cli_words.specs.Commands.{Command, Settings, Step, Run, Verify, Extract, Replay, Upgrade, Gen, Receipt, Join, Check, AsOf, Help, Version}
-use Rattle.cli_words.specs.Help.{help_of}
-use Rattle.cli_words.specs.declared.help.TheConstants.{VERSION}
+use Rattle.cli_words.specs.Help.{help_of, version_line}
 use Rattle.cli_words.specs.declared.part.Part.{Part}
 use Rattle.cli_words.specs.declared.part.Part.TheVariants as shown
 use Rattle.cli_audit.specs.Wanted.{Wanted}
@@ -79,7 +78,7 @@ OfAsOf words P = Unit {0}
 -- what is so of the text that is printed: help, or the version
 abbrev pub OfTell : Option Command → (List ℕ → Type 0) → Type 0
 OfTell (Some (Help which)) P = P (help_of which)
-OfTell (Some Version) P = P VERSION.now
+OfTell (Some Version) P = P version_line
 OfTell words P = Unit {0}
 
 -- the command reads the input

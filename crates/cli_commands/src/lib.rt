@@ -10,6 +10,7 @@ mod start;
 mod step;
 mod step_from;
 mod top;
+mod version;
 
 pub use cli_audit::{INPUT_LIMIT, Status};
 pub use cli_words::USAGE;

@@ -34,6 +34,7 @@ use crate::run::run_side_by_side;
 use crate::run_from::run_from;
 use crate::step::step;
 use crate::step_from::step_from;
+use crate::version::tell_version;
 use base_io::{Clock, Gate, Sink, Source, Vault};
 use base_merkle::Sha256Hash;
 use base_types::Memory;
@@ -41,7 +42,7 @@ use cli_audit::{
     Status, Wanted, answer_as_of, check_receipt, compare_images, make_receipt, replay_journal,
     tell_text, upgrade_image, verify_image,
 };
-use cli_words::{Command, VERSION, help_text, read_command};
+use cli_words::{Command, help_text, read_command};
 use std::alloc::Global;
 use std::sync::Wait;
 use std::thread::Threads;
@@ -412,6 +413,6 @@ pub fn ledgerd<S: Source, K: Sink, V: Vault, C: Clock, G: Gate, R: Threads + Wai
         }
         Command::Gen { count } => generate(rt, alloc, Sha256Hash, count, sink),
         Command::Help(which) => tell_text(help_text(which), sink),
-        Command::Version => tell_text(VERSION, sink),
+        Command::Version => tell_version(alloc, sink),
     }
 }

@@ -1,8 +1,10 @@
-// The texts of help.
-ghost use Rattle.std.specs.Prelude.{◌≡◌};
-ghost use Rattle.cli_words.specs.Help.{help_of};
+// The texts of help, and the version.
+ghost use Rattle.std.specs.Prelude.{◌≡◌, IfOk, string_bytes};
+ghost use Rattle.cli_words.specs.Help.{help_of, version_line};
 
+use crate::build::BUILD;
 use crate::subcommand::Subcommand;
+use std::alloc::{AllocError, Global};
 
 /// What stands on standard error where the words were refused.
 pub const USAGE: &str = "usage: ledgerd [--quiet] COMMAND, which is one of these:
@@ -20,9 +22,11 @@ pub const USAGE: &str = "usage: ledgerd [--quiet] COMMAND, which is one of these
 `./ledgerd --help` says what each does.
 ";
 
-/// The program's name and version, and the logic that the proofs of its sources are in: the last word of `rt version`.
-pub const VERSION: &str = "ledgerd 0.1.0 (logic dac8208d650f15bf)
-";
+/// The program's name and version.
+pub const VERSION: &str = "ledgerd 0.1.0";
+
+/// The logic that the proofs of its sources are in: the last word of `rt version`.
+pub const LOGIC: &str = "dac8208d650f15bf";
 
 /// Help on all commands.
 pub const HELP: &str = "ledgerd runs statements over ledger tables in memory, and verifies images of
@@ -311,4 +315,11 @@ pub fn help_text(which: Option<Subcommand>) -> &'static str
         Some(Subcommand::Check) => CHECK_HELP,
         Some(Subcommand::AsOf) => ASOF_HELP,
     }
+}
+
+/// The program's name and version, how it was made, and the logic of its proofs.
+pub fn version_text(alloc: Global) -> Result<String, AllocError>
+    ensures { IfOk result (λ text. string_bytes text ≡ version_line) }
+{
+    Ok(format!(in alloc; "{VERSION} ({BUILD}, logic {LOGIC})\n")?)
 }
