@@ -13,5 +13,4 @@ mod top;
 mod version;
 
 pub use cli_audit::{INPUT_LIMIT, Status};
-pub use cli_words::USAGE;
 pub use top::ledgerd;

@@ -14,7 +14,7 @@ mod subcommand;
 
 pub use build::BUILD;
 pub use command::{Command, read_command};
-pub use help::{HELP, LOGIC, USAGE, VERSION, help_text, version_text};
+pub use help::{HELP, LOGIC, OVERVIEW, VERSION, help_text, usage_of, version_text};
 pub use law::{saved_files_can_be_read, settings_are_in_range, words_law};
 pub use names::name_read;
 pub use part::Part;

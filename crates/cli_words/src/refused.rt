@@ -18,9 +18,18 @@ enum Form {
     Number(u64, u64),
 }
 
+/// A word, as it is spelled.
+#[derive(Clone, Copy)]
+enum Spelled<'a> {
+    Word(&'a str),
+    /// An option, by its name.
+    Option(&'a str),
+    Value { option: &'a str, value: &'a str },
+}
+
 /// What is wrong with a word.
 #[derive(Clone, Copy)]
-enum Fault {
+enum Fault<'a> {
     NotGiven,
     NoCommand,
     NoOption,
@@ -29,8 +38,8 @@ enum Fault {
     NoValue,
     GivenTwice,
     TooMany,
-    /// A path stands in the place of a name.
-    Path,
+    /// A path stands in the place of a name: that of a file of this folder, which is named so.
+    Path { folder: &'a str, named: Spelled<'a> },
     /// It stands beside `--from`, whose journal says it.
     BesideJournal,
     /// It lacks the form of a value.
@@ -40,10 +49,8 @@ enum Fault {
 /// A word that was refused, or one that is missing, and why.
 #[derive(Clone, Copy)]
 pub struct Refused<'a> {
-    /// The option, or that whose value the word is.
-    option: Option<&'a str>,
-    word: Option<&'a str>,
-    fault: Fault,
+    spelled: Spelled<'a>,
+    fault: Fault<'a>,
 }
 
 /// How far the words behind a command were looked at.
@@ -111,19 +118,40 @@ fn is_given(words: &[String], name: &str) -> bool {
     words.iter().any(|word| gives(word.as_str(), name))
 }
 
-fn of_option<'a>(name: &'a str, fault: Fault) -> Option<Refused<'a>> {
+fn of_option<'a>(name: &'a str, fault: Fault<'a>) -> Option<Refused<'a>> {
     Some(Refused {
-        option: Some(name),
-        word: None,
+        spelled: Spelled::Option(name),
         fault,
     })
 }
 
-fn of_word<'a>(word: &'a str, fault: Fault) -> Option<Refused<'a>> {
+fn of_word<'a>(word: &'a str, fault: Fault<'a>) -> Option<Refused<'a>> {
     Some(Refused {
-        option: None,
-        word: Some(word),
+        spelled: Spelled::Word(word),
         fault,
+    })
+}
+
+/// A value, with the option whose value it is.
+fn value_of<'a>(option: Option<&'a str>, value: &'a str) -> Spelled<'a> {
+    match option {
+        Some(option) => Spelled::Value { option, value },
+        None => Spelled::Word(value),
+    }
+}
+
+/// How a file is named whose path stands in the place of a name.
+fn path_fault<'a>(option: Option<&'a str>, form: Form, path: &'a str) -> Option<Fault<'a>> {
+    if !is_name(form) {
+        return None;
+    }
+    let (folder, name) = path.rsplit_once('/')?;
+    if !has_form(form, name) {
+        return None;
+    }
+    Some(Fault::Path {
+        folder: if folder.is_empty() { "/" } else { folder },
+        named: value_of(option, name),
     })
 }
 
@@ -133,21 +161,15 @@ fn value_fault<'a>(option: Option<&'a str>, name: &str, word: &'a str) -> Option
     if has_form(form, word) {
         return None;
     }
-    let fault = if is_name(form) && word.contains('/') {
-        Fault::Path
-    } else {
-        Fault::Form(form)
-    };
     Some(Refused {
-        option,
-        word: Some(word),
-        fault,
+        spelled: value_of(option, word),
+        fault: path_fault(option, form, word).unwrap_or(Fault::Form(form)),
     })
 }
 
 /// Why a command has no option of this name.
-fn no_option(name: &str) -> Fault {
-    if name == "quiet" {
+fn no_option<'a>(name: &str) -> Fault<'a> {
+    if name == "quiet" || name == "C" {
         Fault::BeforeCommand
     } else {
         Fault::NoOption
@@ -208,7 +230,7 @@ fn word_fault<'a>(
     match word.strip_prefix("--") {
         Some("") => of_word(word, Fault::NoOption),
         Some(text) => option_fault(which, before, text, scan),
-        None => of_word(word, Fault::NoOption),
+        None => of_word(word, no_option(word.strip_prefix('-').unwrap_or(word))),
     }
 }
 
@@ -247,8 +269,20 @@ fn fault_behind<'a>(which: Subcommand, words: &'a [String]) -> Option<Refused<'a
     missing(which, words, &scan)
 }
 
+/// What is wrong with an option that stands before the command: one that was taken already, or has no value.
+fn fault_before<'a>(word: &'a str, rest: &[String]) -> Option<Refused<'a>> {
+    if word == "-C" && rest.is_empty() {
+        of_word(word, Fault::NoValue)
+    } else {
+        of_word(word, Fault::GivenTwice)
+    }
+}
+
 /// What is wrong with words the first of which names no command.
 fn fault_of_others<'a>(word: &'a str, rest: &'a [String]) -> Option<Refused<'a>> {
+    if word == "-C" || word == "--quiet" {
+        return fault_before(word, rest);
+    }
     if !matches!(word, "help" | "--help" | "-h" | "--version" | "-V") {
         return of_word(word, Fault::NoCommand);
     }
@@ -262,7 +296,8 @@ fn fault_of_others<'a>(word: &'a str, rest: &'a [String]) -> Option<Refused<'a>>
     }
 }
 
-/// Of words that were refused, the first that is at fault, and why; none where nothing is found.
+/// Of words that were refused, the first that is at fault, and why; none where nothing is found. They are without the
+/// options that were taken before the command.
 pub fn refused_word<'a>(words: &'a [String]) -> Option<Refused<'a>> {
     match words {
         [] => of_word("COMMAND", Fault::NotGiven),
@@ -285,19 +320,35 @@ impl fmt::Display for Form {
     }
 }
 
-impl fmt::Display for Fault {
+impl fmt::Display for Fault<'_> {
     fn fmt<W: fmt::Write>(&self, f: &mut fmt::Formatter<W>) -> fmt::Result {
         match self {
             Fault::NotGiven => f.write_str("not given"),
-            Fault::NoCommand => f.write_str("no command; `ledgerd help` has them"),
+            Fault::NoCommand => f.write_str("no command; `ledgerd --help` has them"),
             Fault::NoOption => f.write_str("no option of this command"),
             Fault::BeforeCommand => f.write_str("stands before the command"),
-            Fault::NoValue => f.write_str("no value behind it"),
+            Fault::NoValue => f.write_str("no value after it"),
             Fault::GivenTwice => f.write_str("given twice"),
             Fault::TooMany => f.write_str("one word too many"),
-            Fault::Path => f.write_str("files are those of the current folder, by name"),
+            Fault::Path { folder, named } => {
+                write!(
+                    f,
+                    "names are files of one folder: use -C {folder} before the command and {named}"
+                )
+            }
             Fault::BesideJournal => f.write_str("given beside `--from`, whose journal says it"),
             Fault::Form(form) => write!(f, "{form}"),
+        }
+    }
+}
+
+/// As `--block-size 0`.
+impl fmt::Display for Spelled<'_> {
+    fn fmt<W: fmt::Write>(&self, f: &mut fmt::Formatter<W>) -> fmt::Result {
+        match self {
+            Spelled::Word(word) => f.write_str(word),
+            Spelled::Option(name) => write!(f, "--{name}"),
+            Spelled::Value { option, value } => write!(f, "--{option} {value}"),
         }
     }
 }
@@ -305,11 +356,6 @@ impl fmt::Display for Fault {
 /// The word and why it was refused, as `--block-size 0: a number from 1 to 100000`.
 impl fmt::Display for Refused<'_> {
     fn fmt<W: fmt::Write>(&self, f: &mut fmt::Formatter<W>) -> fmt::Result {
-        match (self.option, self.word) {
-            (Some(option), Some(word)) => write!(f, "--{option} {word}: {}", self.fault),
-            (Some(option), None) => write!(f, "--{option}: {}", self.fault),
-            (None, Some(word)) => write!(f, "{word}: {}", self.fault),
-            (None, None) => write!(f, "{}", self.fault),
-        }
+        write!(f, "{}: {}", self.spelled, self.fault)
     }
 }
