@@ -399,23 +399,25 @@ def cases_of(items: list) -> Iterator[tuple[str, Case]]:
     def altered(*lines: tuple[str, str]) -> bytes:
         return journal_bytes([*items[:place], items[place]._replace(statements=list(lines)), *items[place + 1:]])
 
-    def refused(data: bytes, statement: Optional[int] = None, replays: bool = False) -> Case:
-        at = "" if statement is None else f" (item {place}, statement {statement})"
-        return Case(data, 9, "the journal was refused" + at, replays)
+    def refused(data: bytes, why: str = " doesn't have the form of a journal") -> Case:
+        return Case(data, 9, "bad journal: x.journal" + why)
 
-    yield "that is missing", Case(None, 7, "no such name in the vault (name 1: x.journal)")
-    yield "of no bytes", refused(b"")
+    def illegal(data: bytes, statement: int, replays: bool = False) -> Case:
+        return Case(data, 9, f"bad journal: x.journal isn't legal at item {place}, statement {statement}", replays)
+
+    yield "that is missing", Case(None, 7, "no such file: x.journal")
+    yield "of no bytes", refused(b"", " is empty")
     yield "that is cut", refused(good[:-1])
     yield "with a byte behind it", refused(good + b"x")
-    yield "that says it is an image", refused(b"LGIM" + good[4:])
-    yield "of version 3", refused(good[:4] + number(3, 1) + good[5:])
+    yield "that says it is an image", refused(b"LGIM" + good[4:], " is an image")
+    yield "of version 3", refused(good[:4] + number(3, 1) + good[5:], ": version 3, this program reads 1 and 2")
     yield "with an id twice", refused(journal_bytes([items[0], *items]))
-    yield "with another reply", refused(altered((script[0][0], "7 rows\n"), *script[1:]), 0)
-    yield "with COMMIT inside", refused(altered(*script[:2], ("COMMIT", ""), *script[2:]), 2, True)
-    yield "with ROLLBACK inside", refused(altered(("rollback transaction", ""), *script), 0, True)
+    yield "with another reply", illegal(altered((script[0][0], "7 rows\n"), *script[1:]), 0)
+    yield "with COMMIT inside", illegal(altered(*script[:2], ("COMMIT", ""), *script[2:]), 2, True)
+    yield "with ROLLBACK inside", illegal(altered(("rollback transaction", ""), *script), 0, True)
     older = items[place]._replace(statements=[*script, ("DROP TABLE t", "E01\n")])
     data = journal_bytes([*items[:place], older], 1)
-    yield "of version 1, a text of which is a statement today", refused(data, len(script), True)
+    yield "of version 1, a text of which is a statement today", illegal(data, len(script), True)
     yield "of version 1", Case(journal_bytes(items[:place], 1), 0, replays=True)
     yield "of another database", Case(journal_bytes([], database="Other"), 0, replays=True)
 

@@ -82,25 +82,25 @@ impl Status {
         match self {
             Status::Done => "",
             Status::No => "",
-            Status::Words => "the words were refused",
+            Status::Words => "usage error",
             Status::Limit => "a limit was exceeded",
             Status::SourceFault => "reading the input failed",
             Status::SinkFault => "writing the output failed",
-            Status::VaultFault => "the vault failed",
-            Status::Missing { .. } => "no such name in the vault",
-            Status::Digests { .. } => "the digests were refused",
-            Status::Journal { .. } => "the journal was refused",
-            Status::Form { .. } => "a line has no session",
+            Status::VaultFault => "a file can't be read or written",
+            Status::Missing { .. } => "no such file",
+            Status::Digests { .. } => "bad digests",
+            Status::Journal { .. } => "bad journal",
+            Status::Form { .. } => "bad input",
             Status::NotImage => "not an image",
             Status::Memory => "out of memory",
             Status::NoEntry => "no such entry",
-            Status::Receipt => "the receipt was refused",
+            Status::Receipt => "bad receipt",
             Status::TooFar { .. } => "not so many transactions",
         }
     }
 }
 
-/// The text of a status, and its place where it has one, as `a line has no session (line 3)`.
+/// The text of a status, and its place where it has one, as `bad input (line 3)`.
 impl fmt::Display for Status {
     ghost use Rattle.std.specs.Prelude.{Some};
     ghost use Rattle.cli_audit.specs.Status.{message_of};
