@@ -18,7 +18,7 @@ A run may end in these ways:
     E30     `step` answered a statement E30. All else, files and transcript, is as where that statement isn't in the
             input (where it was assigned an id: as where it is a SELECT on a table of the system), `verify` says Yes
             of the images, and `replay` of the journal leads to the image and the journal
-    full    all is as without a refusal
+    full    all is as without a refusal; what is told of it on standard error may be shorter
 
 Any other is unstated; it is told, its folder stays, and the status is 1. A run that takes more than 60 seconds hangs.
 
@@ -353,12 +353,12 @@ def judge(place, case, ended):
         want(ended.err == LACKS_MEMORY, f"standard error has {ended.err[:200]}")
         want(ended.out == b"", f"standard output has {ended.out[:200]}")
         return judge_first_files(call.words, call.files, full.files, ended.files)
-    if ended[:4] == full[:4]:
+    want(b"out of memory" not in ended.err, f"standard error has {ended.err[:200]}")
+    if (ended.status, ended.out, ended.files) == (full.status, full.out, full.files):
         return "full"
     want(call.words[0] == "step" and full.status == 0 and ended.status == 0,
          f"status {ended.status} (without a refusal {full.status}), {ended.out[:200]} {ended.err[:200]} "
          + differing(ended.files, full.files))
-    want(ended.err == b"", f"standard error has {ended.err[:200]}")
     judge_lacking(place, call, ended)
     judge_accepted(place, call.words, ended.out, ended.files)
     return "E30"
