@@ -10,11 +10,11 @@ use crate::rows::{last_row, text_at};
 use audit_definitions::{has_part_row, number_at, system_rows_of};
 use base_types::{Items, Memory, Name, TableId};
 use sql_types::{IndexDef, TableDef, Version};
-use sql_value::ColumnDef;
+use sql_value::{ColumnDef, TableKind};
 use std::alloc::Global;
 
-/// What these rows of the two system tables tell of the definition: its names, and the columns, the indexes and the
-/// parts of indexes that have their rows.
+/// What these rows of the two system tables tell of the definition: its names, its kind, and the columns, the indexes
+/// and the parts of indexes that have their rows.
 pub(crate) fn def_told(
     alloc: Global,
     first: &[Version],
@@ -62,17 +62,29 @@ fn tell_items(alloc: Global, rows: &[&Version], def: &mut TableDef) -> Result<()
     Ok(())
 }
 
-/// Gives the definition the names that the row of its table says, and marks it as dropped where the row says so.
+/// Gives the definition the names and the kind that the row of its table says, and marks it as dropped if the row says
+/// so.
 fn tell_table(alloc: Global, row: Option<&Version>, def: &mut TableDef) -> Result<(), Memory>
     ensures { OnOk result (def.new ≡ spec.table_told (row_seen row.entry) def.old) }
 {
     if let Some(row) = row {
         def.name = text_at(alloc, row, 2)?;
+        def.kind = kind_numbered(number_at(row, 3));
         def.gone = number_at(row, 3).cmp(&2).is_gt();
         def.history = text_at(alloc, row, 4)?;
         def.view = text_at(alloc, row, 5)?;
     }
     Ok(())
+}
+
+/// The kind that the number in a table's row stands for.
+fn kind_numbered(number: i128) -> TableKind
+    ensures { result ≡ spec.kind_numbered number }
+{
+    match number {
+        1 | 3 => TableKind::AppendOnly,
+        _ => TableKind::Updatable,
+    }
 }
 
 fn columns_told(

@@ -61,7 +61,6 @@ stay_on (c ∷ cs) (d ∷ ds) (e ∷ es) s t = (t.0 ∙ s.0, t.1 ∙ s.1, (λ ma
 -- the definition came to be this one, by any number of changes
 pub record Grows (old new : TableDef) : Type 0 where
   pub id : new.id ≡ old.id
-  pub kind : new.kind ≡ old.kind
   pub columns : ColumnsStay old.columns new.columns
   pub dropped : filter (is_among old.dropped) new.dropped ≡ old.dropped
   pub more : List IndexDef
@@ -70,7 +69,6 @@ pub record Grows (old new : TableDef) : Type 0 where
 pub grow_itself : (def : TableDef) → Grows def def
 grow_itself def = record {
   id = refl;
-  kind = refl;
   columns = stay_same def.columns;
   dropped = filter_own (is_among def.dropped) def.dropped (all_own def.dropped);
   more = [];
@@ -84,7 +82,6 @@ NextDropped old new = (new ≡ old) ⊎ ((n : ℕ) × (is_among old n ≡ false)
 -- by one change
 pub record Next (old new : TableDef) : Type 0 where
   pub id : new.id ≡ old.id
-  pub kind : new.kind ≡ old.kind
   pub columns : ColumnsStay old.columns new.columns
   pub dropped : NextDropped old.dropped new.dropped
   pub more : List IndexDef
@@ -100,7 +97,6 @@ dropped_then os xs ys e (inr p) =
 then_next : (old x new : TableDef) → Grows old x → Next x new → Grows old new
 then_next old x new g n = record {
   id = n.id ∙ g.id;
-  kind = n.kind ∙ g.kind;
   columns = stay_on old.columns x.columns new.columns g.columns n.columns;
   dropped = dropped_then old.dropped x.dropped new.dropped g.dropped n.dropped;
   more = g.more ++ n.more;
@@ -108,12 +104,11 @@ then_next old x new g n = record {
 }
 
 pub next_index : (def : TableDef) (i : IndexDef) → Next def (with_index def i)
-next_index def i = record { id = refl; kind = refl; columns = stay_same def.columns; dropped = inl refl; more = i ∷ []; indexes = refl }
+next_index def i = record { id = refl; columns = stay_same def.columns; dropped = inl refl; more = i ∷ []; indexes = refl }
 
 pub next_added : (def : TableDef) (c : ColumnDef) → has_name (names_of def.columns) c.name ≡ false → nat_le max_columns (length def.columns) ≡ false → Next def (with_added def c)
 next_added def c free room = record {
   id = refl;
-  kind = refl;
   columns = (added_alters def c free room).columns;
   dropped = inl refl;
   more = [];
@@ -124,7 +119,6 @@ pub next_dropped : (def : TableDef) (p : ℕ × ColumnDef) → slice_get def.col
     → has_name (names_of def.columns) (dropped_column_name p.1.name (suc p.0)) ≡ false → Next def (with_dropped def p)
 next_dropped def p at live out free = record {
   id = refl;
-  kind = refl;
   columns = (dropped_alters def p at out free).columns;
   dropped = inr (suc p.0, live, refl);
   more = [];
@@ -133,7 +127,7 @@ next_dropped def p at live out free = record {
 
 pub next_gone : (def : TableDef) → Next def (dropped_table def)
 unfolding dropped_table
-next_gone def = record { id = refl; kind = refl; columns = stay_same def.columns; dropped = inl refl; more = []; indexes = sym (append-nil def.indexes) }
+next_gone def = record { id = refl; columns = stay_same def.columns; dropped = inl refl; more = []; indexes = sym (append-nil def.indexes) }
 
 -- ---- all definitions
 

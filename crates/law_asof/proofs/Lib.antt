@@ -3,6 +3,7 @@ mod GrowAlong
 mod Grown
 mod LastRow
 mod Later
+mod OwnRow
 mod Shown
 mod Stays
 mod Told

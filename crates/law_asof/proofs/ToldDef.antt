@@ -25,7 +25,7 @@ use Rattle.law_catalog_rows.specs.Latest.{latest, latest_said, number_at}
 use Rattle.law_catalog_rows.specs.Written.{IsWritten, Written}
 use Rattle.law_catalog_rows.proofs.AnyOrder.{three_true}
 use Rattle.law_catalog_rows.proofs.OneRowMore.{said_at}
-use Rattle.spec_asof.specs.DefTold.{columns_told, def_told, dropped_told, indexes_told, items_told, last_row, table_told, text_at, text_in}
+use Rattle.spec_asof.specs.DefTold.{columns_told, def_told, dropped_told, indexes_told, items_told, kind_numbered, last_row, table_told, text_at, text_in}
 use Rattle.law_asof.proofs.Grown.{Grows}
 use Rattle.law_asof.proofs.LastRow.{LastSays, last_says}
 use Rattle.law_asof.proofs.ToldColumns.{columns_are, dropped_are, kept_value}
@@ -38,6 +38,12 @@ is_gone true AppendOnly = refl
 is_gone true Updatable = refl
 is_gone false AppendOnly = refl
 is_gone false Updatable = refl
+
+pub kind_in : (b : Bool) (kind : TableKind) → kind_numbered (pos (if b then kind_code kind + 2 else kind_code kind)) ≡ kind
+kind_in true AppendOnly = refl
+kind_in true Updatable = refl
+kind_in false AppendOnly = refl
+kind_in false Updatable = refl
 
 history_in : (kind : TableKind) (name : List ℕ) → HistoryOf kind name → text_in (history_value kind name) ≡ name
 history_in AppendOnly name h = sym h
@@ -58,7 +64,7 @@ def_of id name kind gone history view columns dropped indexes =
       indexes = indexes;
     }
 
-same_fields : (a b : TableDef) → a.id ≡ b.id → a.name ≡ b.name → a.kind ≡ b.kind → a.gone ≡ b.gone → a.history ≡ b.history → a.view ≡ b.view → a.columns ≡ b.columns → a.dropped ≡ b.dropped → a.indexes ≡ b.indexes → a ≡ b
+pub same_fields : (a b : TableDef) → a.id ≡ b.id → a.name ≡ b.name → a.kind ≡ b.kind → a.gone ≡ b.gone → a.history ≡ b.history → a.view ≡ b.view → a.columns ≡ b.columns → a.dropped ≡ b.dropped → a.indexes ≡ b.indexes → a ≡ b
 same_fields a b id name kind gone history view columns dropped indexes =
     λ i. def_of (id i) (name i) (kind i) (gone i) (history i) (view i) (columns i) (dropped i) (indexes i)
 
@@ -82,10 +88,16 @@ module _ (def later : TableDef) (first second : List Row) (e : EncodeDef first s
   unfolding latest_table_row
   name_is = ap text_in (said_value 2 (λ k. omega (arith, k)))
 
+  number_is : number_at 3 row_says.row ≡ number_at 3 (latest_table_row def)
+  number_is = sym (said_at 0 row_says.row 3 (λ k. omega (arith, k))) ∙ ap (number_at 3) row_says.says
+
+  kind_is : kind_numbered (number_at 3 row_says.row) ≡ def.kind
+  unfolding latest_table_row
+  kind_is = ap kind_numbered number_is ∙ kind_in def.gone def.kind
+
   gone_is : is_gt (int_cmp (number_at 3 row_says.row) (pos 2)) ≡ def.gone
   unfolding latest_table_row
-  gone_is =
-      ap (λ (n : ℤ). is_gt (int_cmp n (pos 2))) (sym (said_at 0 row_says.row 3 (λ k. omega (arith, k))) ∙ ap (number_at 3) row_says.says) ∙ is_gone def.gone def.kind
+  gone_is = ap (λ (n : ℤ). is_gt (int_cmp n (pos 2))) number_is ∙ is_gone def.gone def.kind
 
   history_is : text_at 4 row_says.row ≡ def.history
   unfolding latest_table_row
@@ -124,7 +136,7 @@ module _ (def later : TableDef) (first second : List Row) (e : EncodeDef first s
   told_is =
       ap (λ (id : ℕ). table_told (last_row 0 (pos id) (about (pos id) first)) (items_told (about (pos id) second) later)) grows.id
       ∙ ap (λ (o : Option Row). table_told o (items_told items later)) row_says.is
-      ∙ same_fields (table_told (Some row_says.row) (items_told items later)) def grows.id name_is grows.kind gone_is history_is view_is columns_told_are dropped_told_are indexes_told_are
+      ∙ same_fields (table_told (Some row_says.row) (items_told items later)) def grows.id name_is kind_is gone_is history_is view_is columns_told_are dropped_told_are indexes_told_are
 
 told_of : (o : Option Row) (def : TableDef) → (table_told o def).id ≡ def.id
 told_of None def = refl

@@ -1,1 +1,2 @@
+pub mod SameItems
 pub mod Samples

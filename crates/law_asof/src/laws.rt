@@ -1,20 +1,28 @@
 //! Laws of earlier states.
 
-ghost use Rattle.std.specs.Prelude.{ℕ, ◌≡◌, List, map, Option};
+ghost use Rattle.std.specs.Prelude.{ℕ, pos, ◌≡◌, List, map, Option, Some};
 ghost use Rattle.std.specs.List.{AllByRecursion};
+ghost use Rattle.sql_types.specs.declared.image.Image.{Image};
 ghost use Rattle.sql_types.specs.declared.journal.JournalItem.{JournalItem};
 ghost use Rattle.sql_types.specs.declared.statement.Stmt.{Stmt};
+ghost use Rattle.sql_types.specs.declared.table.TableDef.{TableDef};
 ghost use Rattle.spec_history.specs.Journals.{ids_of};
 ghost use Rattle.spec_model.specs.Catalog.{defs_of, versions_of};
 ghost use Rattle.spec_model.specs.Journals.{cut, upto, serial, IsLegal};
 ghost use Rattle.spec_model.specs.Script.{Reading};
 ghost use Rattle.spec_model.specs.Lists.{is_among};
+ghost use Rattle.spec_model.specs.Rows.{Row};
+ghost use Rattle.spec_model.specs.SystemTables.{changed_table_row};
 ghost use Rattle.spec_syntax.specs.Text.{reading_of};
+ghost use Rattle.law_catalog_rows.specs.Encoded.{about};
+ghost use Rattle.law_catalog_rows.specs.Latest.{number_at};
 ghost use Rattle.law_catalog_rows.specs.Written.{ReadsWritten};
 ghost use Rattle.format_image.specs.Image.{image_of};
 ghost use Rattle.format_image.specs.Rows.{filled_table, filled_version, table_rows};
 ghost use Rattle.spec_asof.specs.Answer.{answer_of};
 ghost use Rattle.spec_asof.specs.DatabaseAt.{database_at, first_ids, left_of, versions_at};
+ghost use Rattle.spec_asof.specs.DefTold.{def_told, kind_numbered, last_row};
+ghost use Rattle.law_asof.specs.SameItems.{HaveSameItems};
 
 use law_catalog_text::readings_of_the_grammar_give_written;
 
@@ -63,3 +71,16 @@ pub fn images_tell_earlier_databases()
 {
     readings_of_the_grammar_give_written();
 }
+
+/// After the first `n` transactions a table is told by its own row that counts among theirs: its names, its kind and
+/// whether it was dropped are those of this row, not those of the image's definition. So images whose definitions differ
+/// in these alone tell the same database. The number in the row of a table tells its kind, dropped or not.
+pub fn tables_are_told_by_their_rows()
+    ensures kind { (first second : List Row) (def : TableDef) (row : Row)
+        → last_row 0 (pos def.id) (about (pos def.id) first) ≡ Some row
+        → (def_told first second def).kind ≡ kind_numbered (number_at 3 row) }
+    ensures number { (change : ℕ) (def : TableDef)
+        → kind_numbered (number_at 3 (changed_table_row change def)) ≡ def.kind }
+    ensures databases { (i j : Image) (n : ℕ) → i.entries ≡ j.entries → i.tables ≡ j.tables
+        → HaveSameItems i.defs j.defs → database_at i n ≡ database_at j n }
+{}

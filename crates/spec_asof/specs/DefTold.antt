@@ -1,8 +1,10 @@
 -- A definition, as the rows of the two tables of the system tell it so far.
-use Rattle.std.specs.Prelude.{ℕ, ℤ, pos, ◌==◌, not, Bool, false, if◌then◌else◌, List, [], ◌∷◌, map, length, Option, Some, None, option_map}
+use Rattle.std.specs.Prelude.{ℕ, ℤ, pos, ◌==◌, ◌||◌, not, Bool, false, if◌then◌else◌, List, [], ◌∷◌, map, length, Option, Some, None, option_map}
 use Rattle.std.specs.List.{filter, filter_map, list_any}
 use Rattle.std.specs.Ordering.{int_cmp, int_eq, is_gt}
 use Rattle.sql_value.specs.declared.column.ColumnDef.{ColumnDef}
+use Rattle.sql_value.specs.declared.column.TableKind.{TableKind}
+use Rattle.sql_value.specs.declared.column.TableKind.TheVariants.{AppendOnly, Updatable}
 use Rattle.sql_value.specs.declared.value.Value.{Value}
 use Rattle.sql_value.specs.declared.value.Value.TheVariants.{Text}
 use Rattle.sql_types.specs.declared.table.IndexDef.{IndexDef}
@@ -96,12 +98,18 @@ items_told rows def =
       indexes = indexes_told rows def.id def.indexes;
     }
 
--- a table as its row says it: its names, and whether it was dropped
+-- The kind that the number in a table's row stands for: 1 and 3 are append-only, 2 and 4 updatable. No definition is
+-- spelled by a row with another number.
+abbrev pub kind_numbered : ℤ → TableKind
+kind_numbered number = if int_eq number (pos 1) || int_eq number (pos 3) then AppendOnly else Updatable
+
+-- a table as its row says it: its names, its kind, and whether it was dropped
 abbrev pub table_told : Option Row → TableDef → TableDef
 table_told None def = def
 table_told (Some row) def =
     record def {
       name = text_at 2 row;
+      kind = kind_numbered (number_at 3 row);
       gone = is_gt (int_cmp (number_at 3 row) (pos 2));
       history = text_at 4 row;
       view = text_at 5 row;
