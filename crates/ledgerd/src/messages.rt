@@ -129,10 +129,11 @@ fn tell_words(rt: &impl Eprint, words: &[String]) -> io::Result<()> {
     let Some(usage) = usage_of(words) else {
         return Ok(());
     };
-    let mut before = "usage: ";
+    let mut is_first = true;
     for line in usage.lines() {
+        let before = if is_first { "usage: " } else { "       " };
         eprintln!(rt; "{before}{line}")?;
-        before = "       ";
+        is_first = false;
     }
     Ok(())
 }
