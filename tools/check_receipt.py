@@ -3,8 +3,9 @@
 
     tools/check_receipt.py RECEIPT DIGESTS
 
-Writes `Yes` (status 0) or `No receipt` (1), and on standard error what the receipt shows or lacks. The status is
-15 where the bytes have no receipt's form, 8 where the digests can't be read, 7 where a file can't. This file needs no
+Writes `Yes`, of a chain `Yes A B` with the blocks of its first and last record (status 0); or `No join of block K`,
+`No digest of block K` or `No receipt` (1); and on standard error what the receipt shows or lacks. The status is 15
+where the bytes have no receipt's form, 8 where the digests can't be read, 7 where a file can't. This file needs no
 other, and is written from docs/reference/formats.md alone (sections "Receipt", "Receipts of rows" and "Chain"). Of the
 events that a receipt shows it looks at the heads alone, and not at their values.
 """
@@ -15,11 +16,11 @@ import re
 import sys
 
 
-def need(condition: bool, status: int, lack: str) -> None:
+def need(condition: bool, status: int, lack: str, line: str = "No receipt") -> None:
     """Ends the check with what a receipt lacks."""
     if not condition:
         if status == 1:
-            print("No receipt")
+            print(line)
         print(f"check_receipt.py: {lack}", file=sys.stderr)
         sys.exit(status)
 
@@ -138,7 +139,7 @@ def check_records(records: list[bytes], database: str, held: list[dict]) -> list
     """The numbers of the blocks of records that lead to a held digest."""
     ids = [int.from_bytes(record[:8], "big") for record in records]
     digest = next((it for it in held if it["block_id"] == ids[-1]), None)
-    need(digest is not None, 1, f"no digest is of block {ids[-1]}")
+    need(digest is not None, 1, "the list has no digest of the last block", f"No digest of block {ids[-1]}")
     need(digest["database_name"] == database, 1, "the digest is of another database")
     need(bytes.fromhex(digest["hash"][2:]) == sha256(records[-1]), 1, "the last record is not the one of the digest")
     need(ids == list(range(ids[0], ids[0] + len(ids))), 1, "the records are of other blocks")
@@ -155,19 +156,23 @@ def check_entry(leaf: bytes, entry: dict, path: list[bytes], first: bytes) -> No
     need(root == first[8:40], 1, "the path doesn't lead to the root of the block")
 
 
-def check_chain(database: str, records: list[bytes], held: list[dict]) -> str:
-    """The digests of all blocks of a chain are those of its records."""
+def is_joined(digest: dict, database: str, ids: range, records: list[bytes]) -> bool:
+    """Whether a digest is of the database, and of a record of a chain."""
+    if digest["block_id"] not in ids or digest["database_name"] != database:
+        return False
+    return bytes.fromhex(digest["hash"][2:]) == sha256(records[digest["block_id"] - ids[0]])
+
+
+def check_chain(database: str, records: list[bytes], held: list[dict]) -> tuple[str, str]:
+    """Each digest of the list is that of a record of the chain."""
     ids = check_records(records, database, held)
-    others = [it for it in held if it["block_id"] in ids]
-    for it in others:
-        record = records[it["block_id"] - ids[0]]
-        need(it["database_name"] == database, 1, "a digest is of another database")
-        need(bytes.fromhex(it["hash"][2:]) == sha256(record), 1, f"the digest of block {it['block_id']} is another")
-    return f"the digest of block {ids[-1]} continues those of the blocks from {ids[0]} on"
+    left = [it["block_id"] for it in held if not is_joined(it, database, range(ids[0], ids[-1] + 1), records)]
+    need(not left, 1, "the chain doesn't join every digest of the list", f"No join of block {min(left, default=0)}")
+    return f"Yes {ids[0]} {ids[-1]}", f"the digest of block {ids[-1]} continues all digests of the list"
 
 
-def check(data: bytes, digests: bytes) -> str:
-    """What an accepted receipt shows."""
+def check(data: bytes, digests: bytes) -> tuple[str, str]:
+    """The line of an accepted receipt, and what it shows."""
     source = Reader(data)
     kind = source.take(5)
     need(kind in (b"LGRC\1", b"LGRA\1", b"LGRR\1", b"LGCC\1"), 15, "this is no receipt")
@@ -197,19 +202,19 @@ def check(data: bytes, digests: bytes) -> str:
     check_entry(leaf, entry, path, records[0])
     shown = "transaction {id} of {session} at tick {time}, in block {block} at {ordinal}, tables {tables}".format(**entry)
     if not events:
-        return shown
+        return "Yes", shown
     table = read_leaf(events[0])[1]
     need(all(read_leaf(it) == (entry["id"], table) for it in events), 1, "an event is another transaction's or table's")
     root = tree_hash(events) if kind == b"LGRA\1" else root_over(events[0], steps)
     need(entry["roots"].get(table) == root, 1, "the events don't lead to the root of their table")
     which = "all" if kind == b"LGRA\1" else "one"
-    return f"{shown}: {which} of its events in table {table}"
+    return "Yes", f"{shown}: {which} of its events in table {table}"
 
 
 def main(words: list[str]) -> None:
     need(len(words) == 2, 2, "check_receipt.py RECEIPT DIGESTS")
-    shown = check(*map(read_file, words))
-    print("Yes")
+    line, shown = check(*map(read_file, words))
+    print(line)
     print(f"check_receipt.py: {shown}", file=sys.stderr)
 
 

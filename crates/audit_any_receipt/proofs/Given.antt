@@ -1,7 +1,8 @@
 -- What is made of an image is accepted.
 use Rattle.std.proofs.Common.{◌≡◌, ◌≤◌, ◌<◌, ℕ, Bool, true, false, nat_lt, List, [], ◌∷◌, Some, refl, sym, subst, arith}
 use Rattle.std.specs.Prelude.{if◌then◌else◌}
-use Rattle.std.proofs.lemmas.Bool.{ltb-true}
+use Rattle.std.proofs.lemmas.Bool.{ltb-true, ltb-false}
+use Rattle.std.specs.List.{AllByRecursion}
 use Rattle.sql_types.specs.declared.digest.HeldDigest.{HeldDigest}
 use Rattle.sql_types.specs.declared.image.Image.{Image}
 use Rattle.format_image.specs.ImageBytes.{IsImage}
@@ -13,6 +14,7 @@ use Rattle.format_receipt.specs.declared.receipt.Receipt.{Receipt}
 use Rattle.audit_receipt.specs.Accepted.{Accepted}
 use Rattle.audit_receipt.proofs.Made.{made_accepted}
 use Rattle.audit_chain.specs.Continues.{Continues}
+use Rattle.audit_chain.specs.Joins.{IsWithin}
 use Rattle.audit_chain.proofs.Continuing.{made_continues}
 use Rattle.law_row_receipt.proofs.RowsGiven.{table_given, row_given}
 use Rattle.audit_any_receipt.specs.declared.any.AnyReceipt.{AnyReceipt}
@@ -22,7 +24,7 @@ use Rattle.audit_any_receipt.specs.declared.make.Wanted.TheVariants as wanted
 use Rattle.audit_any_receipt.specs.Among.{IsAcceptedBy}
 use Rattle.audit_any_receipt.specs.Kinds.{IsAny}
 use Rattle.audit_any_receipt.specs.Wanted.{least_to, IsMadeFor, IsReceiptUnder}
-use Rattle.audit_any_receipt.proofs.Held.{Fits, all_fit, last_fits}
+use Rattle.audit_any_receipt.proofs.Held.{Fits, all_fit, all_to, last_fits}
 
 -- ---- the least block
 
@@ -30,12 +32,28 @@ less_if : (b : Bool) (n m : ℕ) → nat_lt n m ≡ b → (if b then n else m) �
 less_if true n m e = let lt = ltb-true n m e in omega (arith, lt)
 less_if false n m e = omega arith
 
+lesser_of : (b : Bool) (n m : ℕ) → nat_lt n m ≡ b → (if b then n else m) ≤ n
+lesser_of true n m e = omega arith
+lesser_of false n m e = let le = ltb-false n m e in omega (arith, le)
+
 pub least_within : (n : ℕ) (ds : List HeldDigest) → least_to n ds ≤ n
 least_within n [] = omega arith
 least_within n (d ∷ ds) =
     let one = less_if (nat_lt d.block n) d.block n refl in
     let more = least_within (if nat_lt d.block n then d.block else n) ds in
     omega (arith, one, more)
+
+-- the least block is no later than that of each digest
+all_from : (n : ℕ) (ds : List HeldDigest) → AllByRecursion (λ (d : HeldDigest). least_to n ds ≤ d.block) ds
+all_from n [] = tt
+all_from n (d ∷ ds) =
+    let one = lesser_of (nat_lt d.block n) d.block n refl in
+    let more = least_within (if nat_lt d.block n then d.block else n) ds in
+    (omega (arith, one, more), all_from (if nat_lt d.block n then d.block else n) ds)
+
+all_within : (from to : ℕ) (ds : List HeldDigest) → AllByRecursion (λ (d : HeldDigest). from ≤ d.block) ds → AllByRecursion (λ (d : HeldDigest). d.block ≤ to) ds → AllByRecursion (IsWithin from to) ds
+all_within from to [] a b = tt
+all_within from to (d ∷ ds) a b = ((a.0, b.0), all_within from to ds a.1 b.1)
 
 -- ---- receipts
 
@@ -63,7 +81,8 @@ module _ (h : List ℕ → List ℕ) (i : Image) (held : List HeldDigest) (d : H
         made = made;
         spelled = made.spelled;
         accepted = subst (λ (x : Chain). Continues h x d held) (sym made.is)
-            (made_continues h i is fits.chain fits.blocks (least_to d.block held) d held fits.digest (all_fit h i held yields) (least_within d.block held));
+            (made_continues h i is fits.chain fits.blocks (least_to d.block held) d held fits.digest (all_fit h i held yields) (least_within d.block held)
+            (all_within (least_to d.block held) d.block held (all_from d.block held) (all_to held d last)));
       }
   is_under (wanted.Entry tx) (kinds.Table r) made = absurd made
   is_under (wanted.Entry tx) (kinds.Event r) made = absurd made

@@ -1,6 +1,7 @@
 -- What an accepted image meets of one of the digests that it is accepted with.
-use Rattle.std.proofs.Common.{◌≡◌, ◌∙◌, ◌<◌, ℕ, zero, suc, Bool, true, false, cond, nat_lt, List, [], ◌∷◌, Some, None, sym, subst, arith}
+use Rattle.std.proofs.Common.{◌≡◌, ◌∙◌, ◌<◌, ◌≤◌, ℕ, zero, suc, Bool, true, false, cond, nat_lt, List, [], ◌∷◌, Some, None, refl, sym, subst, arith}
 use Rattle.std.specs.List.{AllByRecursion, Contains}
+use Rattle.std.proofs.lemmas.Bool.{ltb-true, ltb-false}
 use Rattle.sql_types.specs.declared.digest.HeldDigest.{HeldDigest}
 use Rattle.sql_types.specs.declared.image.Image.{Image}
 use Rattle.format_image.specs.ImageBytes.{IsImage, IsSpellingOf}
@@ -33,6 +34,34 @@ one_has : (P : HeldDigest → Type 0) (digests : List HeldDigest) (d : HeldDiges
 one_has P [] d all (k, within, is) = absurd (omega (arith, within))
 one_has P (first ∷ rest) d all (zero, within, is) = subst P is all.0
 one_has P (first ∷ rest) d all (suc k, within, is) = one_has P rest d all.1 (k, omega (arith, within), is)
+
+-- ---- the greatest block
+
+-- no digest is of a later block than the last of them
+record IsGreatest (last first : HeldDigest) (rest : List HeldDigest) : Type 0 where
+  above : first.block ≤ last.block
+  rest_below : AllByRecursion (λ (d : HeldDigest). d.block ≤ last.block) rest
+
+greatest : (first : HeldDigest) (rest : List HeldDigest) → IsGreatest (last_from first rest) first rest
+greatest first [] = record { above = omega arith; rest_below = tt }
+greatest first (d ∷ ds) = go (nat_lt first.block d.block) refl (greatest d ds) (greatest first ds)
+  where
+    go : (b : Bool) → nat_lt first.block d.block ≡ b → IsGreatest (last_from d ds) d ds → IsGreatest (last_from first ds) first ds → IsGreatest (last_from (cond b d first) ds) first (d ∷ ds)
+    go true e later earlier =
+        let lt = ltb-true first.block d.block e in
+        let above = later.above in
+        record { above = omega (arith, lt, above); rest_below = (above, later.rest_below) }
+    go false e later earlier =
+        let le = ltb-false first.block d.block e in
+        let above = earlier.above in
+        record { above = above; rest_below = (omega (arith, le, above), earlier.rest_below) }
+
+pub all_to : (digests : List HeldDigest) (d : HeldDigest) → last_of digests ≡ Some d → AllByRecursion (λ (e : HeldDigest). e.block ≤ d.block) digests
+all_to [] d is = cc
+all_to (first ∷ rest) d is =
+    let same : last_from first rest ≡ d = cc in
+    let g = greatest first rest in
+    subst (λ (x : HeldDigest). AllByRecursion (λ (e : HeldDigest). e.block ≤ x.block) (first ∷ rest)) same (g.above, g.rest_below)
 
 -- ---- what holds with it
 

@@ -1,3 +1,4 @@
+mod Answered
 mod AnyKinds
 mod Contradicted
 mod Given

@@ -7,7 +7,7 @@ mod any;
 mod laws;
 mod make;
 
-pub use among::{check_any, last_block};
+pub use among::{Answer, check_any, last_block};
 pub use any::{AnyReceipt, read_any, write_any};
 pub use audit_chain::first_block;
 pub use audit_receipt::ReceiptErr;

@@ -10,7 +10,7 @@ use Rattle.spec_ledger.specs.Blocks.{record_hash, first_or_no_hash}
 use Rattle.format_chain.specs.declared.chain.Chain.{Chain}
 use Rattle.audit_receipt.specs.Tests.{lead_to}
 use Rattle.audit_receipt.proofs.Decided.{both, turned, strings, led}
-use Rattle.audit_chain.specs.Continues.{first_block, IsOfFirst, IsKept, Continues, is_of_first, is_kept, are_kept}
+use Rattle.audit_chain.specs.Continues.{first_block, IsOfFirst, IsJoined, LeadsOn, is_of_first, is_joined}
 use Rattle.audit_chain.specs.Joins.{Joins}
 
 module _ (h : List ℕ → List ℕ) where
@@ -28,29 +28,24 @@ module _ (h : List ℕ → List ℕ) where
   -- ---- several digests
 
   of_first : (database : List ℕ) (d : HeldDigest) (rs : List BlockRecord) → Decides (is_of_first h database d rs) (IsOfFirst h database d rs)
-  of_first database d [] = ((λ e. tt), λ p. refl)
+  of_first database d [] = ((λ e. cc), λ p. absurd p)
   of_first database d (r ∷ rs) = both (bytes_eq d.database database) (bytes_eq (record_hash h r) d.hash) (strings d.database database) (strings (record_hash h r) d.hash)
 
-  kept : (c : Chain) (d : HeldDigest) → Decides (is_kept h c.database (first_block c.records) c.records d) (IsKept h c d)
-  kept c d = by (nat_lt d.block (first_block c.records)) refl
+  pub joined_one : (c : Chain) (d : HeldDigest) → Decides (is_joined h c.database (first_block c.records) c.records d) (IsJoined h c d)
+  joined_one c d = by (nat_lt d.block (first_block c.records)) refl
     where
       rest : List BlockRecord
       rest = drop (d.block - first_block c.records) c.records
 
-      by : (b : Bool) → nat_lt d.block (first_block c.records) ≡ b → Decides (if b then true else is_of_first h c.database d rest) (IsKept h c d)
-      by true t = ((λ e. λ le. absurd (omega (arith, le, ltb-true d.block (first_block c.records) t))), λ p. refl)
-      by false t = ((λ e. λ le. (of_first c.database d rest).0 e), λ p. (of_first c.database d rest).1 (p (ltb-false d.block (first_block c.records) t)))
+      by : (b : Bool) → nat_lt d.block (first_block c.records) ≡ b → Decides (if b then false else is_of_first h c.database d rest) (IsJoined h c d)
+      by true t = ((λ e. cc), λ p. let le = p.0 in absurd (omega (arith, le, ltb-true d.block (first_block c.records) t)))
+      by false t = ((λ e. (ltb-false d.block (first_block c.records) t, (of_first c.database d rest).0 e)), λ p. (of_first c.database d rest).1 p.1)
 
-  all_kept : (c : Chain) (ds : List HeldDigest) → Decides (are_kept h c.database (first_block c.records) c.records ds) (AllByRecursion (IsKept h c) ds)
-  all_kept c [] = ((λ e. tt), λ p. refl)
-  all_kept c (d ∷ ds) = both (is_kept h c.database (first_block c.records) c.records d) (are_kept h c.database (first_block c.records) c.records ds) (kept c d) (all_kept c ds)
-
-  -- the answer of the three tests
-  pub continued : (c : Chain) (newest : HeldDigest) (digests : List HeldDigest) (a l k answer : Bool) → a ≡ bytes_eq c.database newest.database → l ≡ lead_to h (first_block c.records) c.records newest
-      → k ≡ are_kept h c.database (first_block c.records) c.records digests → answer ≡ (a && (l && k)) → Decides answer (Continues h c newest digests)
-  continued c newest digests a l k answer is_a is_l is_k is_answer =
-      rw (is_answer, is_a, is_l, is_k) (turned (bytes_eq c.database newest.database && (lead_to h (first_block c.records) c.records newest && are_kept h c.database (first_block c.records) c.records digests))
-      (λ p. record { database = p.0; chain = p.1.0; kept = p.1.1 })
-      (λ x. (x.database, (x.chain, x.kept)))
-      (both (bytes_eq c.database newest.database) (lead_to h (first_block c.records) c.records newest && are_kept h c.database (first_block c.records) c.records digests) (strings c.database newest.database)
-      (both (lead_to h (first_block c.records) c.records newest) (are_kept h c.database (first_block c.records) c.records digests) (led h (first_block c.records) c.records newest) (all_kept c digests))))
+  -- the answer of the two tests
+  pub led_on : (c : Chain) (newest : HeldDigest) (a l answer : Bool) → a ≡ bytes_eq c.database newest.database → l ≡ lead_to h (first_block c.records) c.records newest
+      → answer ≡ (a && l) → Decides answer (LeadsOn h c newest)
+  led_on c newest a l answer is_a is_l is_answer =
+      rw (is_answer, is_a, is_l) (turned (bytes_eq c.database newest.database && lead_to h (first_block c.records) c.records newest)
+      (λ p. record { database = p.0; chain = p.1 })
+      (λ x. (x.database, x.chain))
+      (both (bytes_eq c.database newest.database) (lead_to h (first_block c.records) c.records newest) (strings c.database newest.database) (led h (first_block c.records) c.records newest)))

@@ -1,3 +1,4 @@
 pub mod Continuing
 mod Decided
 mod Histories
+mod Least

@@ -1,5 +1,5 @@
 -- When a chain joins two digests, and the one that an image gives.
-use Rattle.std.specs.Prelude.{ℕ, ◌≡◌, List, drop}
+use Rattle.std.specs.Prelude.{ℕ, ◌≡◌, ◌≤◌, List, drop}
 use Rattle.sql_types.specs.declared.digest.HeldDigest.{HeldDigest}
 use Rattle.sql_types.specs.declared.image.Image.{Image}
 use Rattle.spec_ledger.specs.Blocks.{first_or_no_hash}
@@ -18,3 +18,7 @@ pub record Joins (h : List ℕ → List ℕ) (c : Chain) (older newer : HeldDige
 -- the records of an image from one block to another
 abbrev pub chain_of : Image → ℕ → ℕ → Chain
 chain_of i from b = record { database = i.database; records = drop from (blocks_to i b) }
+
+-- the digest is of a block from one to another
+abbrev pub IsWithin : ℕ → ℕ → HeldDigest → Type 0
+IsWithin from b d = (from ≤ d.block) × (d.block ≤ b)

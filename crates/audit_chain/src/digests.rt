@@ -1,8 +1,9 @@
-//! Whether a chain shows that one digest continues the histories of others.
+//! Which digests a chain joins.
 
-ghost use Rattle.std.specs.Prelude.{◌≡◌, ◌&&◌, bytes_eq, drop};
+ghost use Rattle.std.specs.Prelude.{◌≡◌, ◌&&◌, bytes_eq, drop, None};
 ghost use Rattle.std.specs.Bool.{Decides};
-ghost use Rattle.audit_chain.specs.Continues.{Continues, are_kept, first_block, is_kept, is_of_first};
+ghost use Rattle.audit_chain.specs.Continues.{IsLeastUnjoined, LeadsOn, first_block};
+ghost use Rattle.audit_chain.specs.Continues.{is_joined, is_of_first, least_unjoined, lesser};
 
 use audit_receipt::leads_to;
 use base_merkle::Hash32;
@@ -11,29 +12,22 @@ use format_chain::Chain;
 use format_entry::block_hash;
 use sql_types::{BlockRecord, HeldDigest};
 
-/// Whether a chain leads from its first block to that of the newest digest, and each of some digests that is of one of
-/// its blocks is that of the block's record. It takes no memory, and the time of hashing each record once and that of
-/// each digest's block once more.
-pub fn check_digests<H: Hash32>(
-    h: H,
-    chain: &Chain,
-    newest: &HeldDigest,
-    digests: &[HeldDigest],
-) -> bool
-    ensures { Decides result (Continues (H.digest h) chain.now newest.now digests.now) }
+/// Whether a chain's records are in order, and lead from its first block to the newest digest. It takes no memory, and
+/// the time of hashing each record once.
+pub fn leads_on<H: Hash32>(h: H, chain: &Chain, newest: &HeldDigest) -> bool
+    ensures { Decides result (LeadsOn (H.digest h) chain.now newest.now) }
 {
     let records = chain.records.as_slice();
     let from = first_block(records);
     let own = is_equal(chain.database.bytes(), newest.database.bytes());
     let led = leads_to(h, from, records, newest);
-    let kept = are_kept(h, chain.database.bytes(), from, records, digests);
-    are_all(own, led, kept)
+    are_both(own, led)
 }
 
-fn are_all(a: bool, b: bool, c: bool) -> bool
-    ensures { result ≡ (a && (b && c)) }
+fn are_both(a: bool, b: bool) -> bool
+    ensures { result ≡ (a && b) }
 {
-    a && b && c
+    a && b
 }
 
 fn is_equal(a: &[u8], b: &[u8]) -> bool
@@ -52,41 +46,62 @@ pub fn first_block(records: &[BlockRecord]) -> u64
     }
 }
 
-fn are_kept<H: Hash32>(
+/// The least block of the digests that a chain doesn't join, or None where it joins each. It takes no memory, and the
+/// time of hashing the record of each digest's block.
+pub fn least_unjoined_of<H: Hash32>(h: H, chain: &Chain, digests: &[HeldDigest]) -> Option<u64>
+    ensures { IsLeastUnjoined (H.digest h) chain.now digests.now result }
+{
+    let records = chain.records.as_slice();
+    let from = first_block(records);
+    least_unjoined(h, chain.database.bytes(), from, records, digests)
+}
+
+fn least_unjoined<H: Hash32>(
     h: H,
     database: &[u8],
     from: u64,
     records: &[BlockRecord],
     digests: &[HeldDigest],
-) -> bool
-    ensures { result ≡ are_kept (H.digest h) database.now from records.now digests.now }
+) -> Option<u64>
+    ensures { result ≡ least_unjoined (H.digest h) database.now from records.now None digests.now }
 {
+    let mut least = None;
     for digest in digests {
-        if !is_kept(h, database, from, records, digest) {
-            return false;
+        if !is_joined(h, database, from, records, digest) {
+            least = Some(lesser(least, digest.block));
         }
     }
-    true
+    least
 }
 
-// Whether the digest, where it is of one of the blocks from one on, is that of the block's record.
-fn is_kept<H: Hash32>(
+/// The lesser of two blocks, of which the first may be absent.
+fn lesser(least: Option<u64>, block: u64) -> u64
+    ensures { result ≡ lesser least block }
+{
+    match least {
+        Some(least) => { if block < least { block } else { least } }
+        None => block,
+    }
+}
+
+// Whether the digest is of one of the blocks from one on, and is that of the block's record.
+fn is_joined<H: Hash32>(
     h: H,
     database: &[u8],
     from: u64,
     records: &[BlockRecord],
     digest: &HeldDigest,
 ) -> bool
-    ensures { result ≡ is_kept (H.digest h) database.now from records.now digest.now }
+    ensures { result ≡ is_joined (H.digest h) database.now from records.now digest.now }
 {
     if digest.block < from {
-        return true;
+        return false;
     }
-    is_of_first(h, database, digest, behind(records, digest.block - from))
+    is_of_first(h, database, digest, after(records, digest.block - from))
 }
 
-// The records behind so many, or none.
-fn behind(records: &[BlockRecord], count: u64) -> &[BlockRecord]
+// The records after so many, or none.
+fn after(records: &[BlockRecord], count: u64) -> &[BlockRecord]
     ensures { result.now ≡ drop count records.now }
 {
     if count < records.len() as u64 {
@@ -109,6 +124,6 @@ fn is_of_first<H: Hash32>(
             is_equal(digest.database.bytes(), database)
                 && is_equal(&block_hash(h, first), &digest.hash)
         }
-        None => true,
+        None => false,
     }
 }

@@ -1,4 +1,4 @@
-//! Two digests joined by a chain of records: that the newer one continues the older one's history.
+//! Digests joined by a chain of records: that the newest one continues the histories of the others.
 #![tactic(auto)]
 
 mod check;
@@ -7,7 +7,7 @@ mod joining;
 mod laws;
 
 pub use check::check_chain;
-pub use digests::{check_digests, first_block};
+pub use digests::{first_block, leads_on, least_unjoined_of};
 pub use format_chain::Chain;
 pub use joining::join;
 pub use laws::{

@@ -1,9 +1,11 @@
 -- What is judged of a receipt, and what one that is accepted shows.
-use Rattle.std.proofs.Common.{◌≡◌, ℕ, Bool, true, List, length, Option, Result, Ok, Err, IfOk, IfErr}
+use Rattle.std.proofs.Common.{◌≡◌, ℕ, true, List, length, Option, Result, Ok, Err, IfOk, IfErr}
 use Rattle.base_io.specs.Store.{Names}
 use Rattle.sql_types.specs.declared.digest.HeldDigest.{HeldDigest}
 use Rattle.audit_any_receipt.specs.declared.any.AnyReceipt.{AnyReceipt}
-use Rattle.audit_any_receipt.specs.Among.{IsAcceptedBy}
+use Rattle.audit_any_receipt.specs.declared.among.Answer.{Answer}
+use Rattle.audit_any_receipt.specs.declared.among.Answer.TheVariants as answers
+use Rattle.audit_any_receipt.specs.Among.{IsAcceptedAmong, IsAcceptedBy, IsAnswer, is_yes}
 use Rattle.audit_any_receipt.specs.Kinds.{IsAny, Spells}
 use Rattle.audit_any_receipt.specs.Shows.{EachImageShows}
 use Rattle.cli_audit.specs.declared.status.Status.{Status}
@@ -13,8 +15,8 @@ use Rattle.cli_audit.specs.Verify.{AreRefused}
 
 -- the receipt of some bytes, and the file of the digests
 module _ (bytes file : List ℕ) (r : AnyReceipt) (spelled : Spells bytes r) where
-  pub judged_on : (h : List ℕ → List ℕ) (result : Result Bool Status) → IfOk result (IsSoWith h r file) → IfOk result (IsCheckedOn h bytes file)
-  judged_on h (Ok so) is = record { r = r; spelled = spelled; held = is.0; read = is.1; is = is.2 }
+  pub judged_on : (h : List ℕ → List ℕ) (result : Result Answer Status) → IfOk result (IsSoWith h r file) → IfOk result (IsCheckedOn h bytes file)
+  judged_on h (Ok answer) is = record { r = r; spelled = spelled; held = is.0; read = is.1; is = is.2 }
   judged_on h (Err status) is = tt
 
   lacks_digests : (status : Status) → AreRefused status file → LacksCheck status bytes file
@@ -35,8 +37,8 @@ module _ (bytes file : List ℕ) (r : AnyReceipt) (spelled : Spells bytes r) whe
   lacks_digests Receipt refused = absurd refused
   lacks_digests (TooFar entries) refused = absurd refused
 
-  pub lacks_check : (result : Result Bool Status) → IfErr result (λ status. AreRefused status file) → IfErr result (λ status. LacksCheck status bytes file)
-  lacks_check (Ok so) refused = tt
+  pub lacks_check : (result : Result Answer Status) → IfErr result (λ status. AreRefused status file) → IfErr result (λ status. LacksCheck status bytes file)
+  lacks_check (Ok answer) refused = tt
   lacks_check (Err status) refused = lacks_digests status refused
 
 -- no image contradicts an accepted receipt
@@ -44,8 +46,24 @@ abbrev pub AreNeverContradicted : Type 0
 AreNeverContradicted = (h : List ℕ → List ℕ) (r : AnyReceipt) (d : HeldDigest) (held : List HeldDigest)
     → ((bytes : List ℕ) → length (h bytes) ≡ 32) → IsAny r → (x : IsAcceptedBy h r d held) → EachImageShows h r d held x
 
-pub shows_claim : AreNeverContradicted → (h : List ℕ → List ℕ) → ((bytes : List ℕ) → length (h bytes) ≡ 32) → (receipt digests : List ℕ) (names : Option Names) → IsChecked h receipt digests names true
-    → ShowsClaim h receipt digests names
-shows_claim never h sized receipt digests names checked =
+accepted_of : (h : List ℕ → List ℕ) (r : AnyReceipt) (held : List HeldDigest) (answer : Answer) → is_yes answer ≡ true → IsAnswer h r held answer → IsAcceptedAmong h r held
+accepted_of h r held answers.Yes yes is = is.1
+accepted_of h r held (answers.Joined from to) yes is = is.1
+accepted_of h r held (answers.NoJoin block) yes is = cc
+accepted_of h r held (answers.NoDigest block) yes is = cc
+accepted_of h r held answers.NoReceipt yes is = cc
+
+pub shows_claim : AreNeverContradicted → (h : List ℕ → List ℕ) → ((bytes : List ℕ) → length (h bytes) ≡ 32) → (receipt digests : List ℕ) (names : Option Names) (answer : Answer) → is_yes answer ≡ true
+    → IsChecked h receipt digests names answer → ShowsClaim h receipt digests names
+shows_claim never h sized receipt digests names answer yes checked =
     let s = checked.such in
-    record { checked = checked; each = never h s.r s.is.d s.held sized s.spelled.0 s.is.accepted }
+    let is = accepted_of h s.r s.held answer yes s.is in
+    record {
+      accepted = record {
+        bytes = checked.bytes;
+        file = checked.file;
+        are_in_vault = checked.are_in_vault;
+        such = record { r = s.r; spelled = s.spelled; held = s.held; read = s.read; is = is };
+      };
+      each = never h s.r is.d s.held sized s.spelled.0 is.accepted;
+    }

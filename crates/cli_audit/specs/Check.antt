@@ -1,11 +1,14 @@
 -- What `check` reads, says and answers.
-use Rattle.std.specs.Prelude.{◌≡◌, ℕ, Bool, true, false, List, [], ◌∷◌, ◌++◌, codes, Option, Ok}
+use Rattle.std.specs.Prelude.{◌≡◌, ℕ, true, false, List, [], ◌∷◌, ◌++◌, codes, Option, Ok}
+use Rattle.std.specs.Fmt.{decimal}
 use Rattle.base_io.specs.Outside.{TellsTaken}
 use Rattle.base_io.specs.Store.{Names}
 use Rattle.sql_types.specs.declared.digest.HeldDigest.{HeldDigest}
 use Rattle.format_digest.specs.Reading.{IsRead}
 use Rattle.audit_any_receipt.specs.declared.any.AnyReceipt.{AnyReceipt}
-use Rattle.audit_any_receipt.specs.Among.{IsSoAmong}
+use Rattle.audit_any_receipt.specs.declared.among.Answer.{Answer}
+use Rattle.audit_any_receipt.specs.declared.among.Answer.TheVariants as answers
+use Rattle.audit_any_receipt.specs.Among.{IsAcceptedAmong, IsAnswer, is_yes}
 use Rattle.audit_any_receipt.specs.Kinds.{Spells, SpellsNone}
 use Rattle.audit_any_receipt.specs.Shows.{EachImageShows}
 use Rattle.cli_audit.specs.declared.status.Status.{Status}
@@ -26,17 +29,17 @@ LacksReceiptForm status.Receipt bytes = SpellsNone bytes
 LacksReceiptForm status.Memory bytes = Unit {0}
 LacksReceiptForm _ bytes = ⊥
 
--- the file has some digests, and this is so of the receipt among them
-abbrev pub IsSoWith : (List ℕ → List ℕ) → AnyReceipt → List ℕ → Bool → Type 0
-IsSoWith h r file so = (held : List HeldDigest) × IsRead file (Ok held) × IsSoAmong h r held so
+-- the file has some digests, and this is answered of the receipt with them
+abbrev pub IsSoWith : (List ℕ → List ℕ) → AnyReceipt → List ℕ → Answer → Type 0
+IsSoWith h r file answer = (held : List HeldDigest) × IsRead file (Ok held) × IsAnswer h r held answer
 
--- the bytes are those of a receipt, the file has some digests, and this is so of the two
-pub record IsCheckedOn (h : List ℕ → List ℕ) (bytes file : List ℕ) (so : Bool) : Type 0 where
+-- the bytes are those of a receipt or chain, the file has some digests, and this is answered of the two
+pub record IsCheckedOn (h : List ℕ → List ℕ) (bytes file : List ℕ) (answer : Answer) : Type 0 where
   pub r : AnyReceipt
   pub spelled : Spells bytes r
   pub held : List HeldDigest
   pub read : IsRead file (Ok held)
-  pub is : IsSoAmong h r held so
+  pub is : IsAnswer h r held answer
 
 -- the bytes are those of a receipt, and the file is refused
 pub record HasNoDigests (ended : Status) (bytes file : List ℕ) : Type 0 where
@@ -53,10 +56,10 @@ LacksCheck _ bytes file = ⊥
 
 -- ---- of what stands under the names
 
--- whether the receipt under the name is accepted, among the digests under the other
-abbrev pub IsChecked : (List ℕ → List ℕ) → List ℕ → List ℕ → Option Names → Bool → Type 0
-IsChecked h receipt digests names so =
-    StandUnder receipt_limit receipt digests names (λ bytes file. IsCheckedOn h bytes file so)
+-- what is answered of the receipt under the name, with the digests under the other
+abbrev pub IsChecked : (List ℕ → List ℕ) → List ℕ → List ℕ → Option Names → Answer → Type 0
+IsChecked h receipt digests names answer =
+    StandUnder receipt_limit receipt digests names (λ bytes file. IsCheckedOn h bytes file answer)
 
 -- why nothing is said of what stands under the names
 abbrev pub LacksAnswer : Status → List ℕ → List ℕ → Option Names → Type 0 → Type 0
@@ -76,36 +79,50 @@ LacksAnswer _ receipt digests names vault = ⊥
 -- exactly where its cause stands, unless a fault or want of memory comes before it.
 abbrev pub CheckCause : Status → (List ℕ → List ℕ) → List ℕ → List ℕ → Option Names
     → Type 0 → Type 0 → Type 0
-CheckCause status.Done h receipt digests names vault sink = IsChecked h receipt digests names true
-CheckCause status.No h receipt digests names vault sink = IsChecked h receipt digests names false
+CheckCause status.Done h receipt digests names vault sink =
+    (answer : Answer) × (is_yes answer ≡ true) × IsChecked h receipt digests names answer
+CheckCause status.No h receipt digests names vault sink =
+    (answer : Answer) × (is_yes answer ≡ false) × IsChecked h receipt digests names answer
 CheckCause status.SinkFault h receipt digests names vault sink = sink
 CheckCause ended h receipt digests names vault sink = LacksAnswer ended receipt digests names vault
 
 -- ---- what is said
 
-abbrev pub check_text : Bool → List ℕ
-check_text true = codes "Yes" ++ 10 ∷ []
-check_text false = codes "No receipt" ++ 10 ∷ []
+-- the line of an answer
+abbrev pub answer_text : Answer → List ℕ
+answer_text answers.Yes = codes "Yes" ++ 10 ∷ []
+answer_text (answers.Joined from to) = codes "Yes " ++ decimal from ++ codes " " ++ decimal to ++ 10 ∷ []
+answer_text (answers.NoJoin block) = codes "No join of block " ++ decimal block ++ 10 ∷ []
+answer_text (answers.NoDigest block) = codes "No digest of block " ++ decimal block ++ 10 ∷ []
+answer_text answers.NoReceipt = codes "No receipt" ++ 10 ∷ []
 
 -- what the sink took of it, and how the call ends then
-abbrev pub HasSaidSo : Status → Bool → Option (List ℕ) → Option (List ℕ) → Type 0
-HasSaidSo status.Done so old new = (so ≡ true) × TellsTaken old new (check_text so)
-HasSaidSo status.No so old new = (so ≡ false) × TellsTaken old new (check_text so)
-HasSaidSo status.SinkFault so old new = TellsPart old new (check_text so)
-HasSaidSo _ so old new = ⊥
+abbrev pub HasSaidSo : Status → Answer → Option (List ℕ) → Option (List ℕ) → Type 0
+HasSaidSo status.Done answer old new = (is_yes answer ≡ true) × TellsTaken old new (answer_text answer)
+HasSaidSo status.No answer old new = (is_yes answer ≡ false) × TellsTaken old new (answer_text answer)
+HasSaidSo status.SinkFault answer old new = TellsPart old new (answer_text answer)
+HasSaidSo _ answer old new = ⊥
 
--- whether the receipt under the name is accepted was said
+-- what is answered of the receipt under the name was said
 pub record Checks (ended : Status) (h : List ℕ → List ℕ) (receipt digests : List ℕ) (names : Option Names)
     (taken_old taken_new : Option (List ℕ)) : Type 0 where
-  pub so : Bool
-  pub is_checked : IsChecked h receipt digests names so
-  pub said : HasSaidSo ended so taken_old taken_new
+  pub answer : Answer
+  pub is_checked : IsChecked h receipt digests names answer
+  pub said : HasSaidSo ended answer taken_old taken_new
 
 -- ---- what Yes shows
+
+-- the bytes are those of a receipt or chain, and it is accepted with the digests of the file
+pub record IsAcceptedOn (h : List ℕ → List ℕ) (bytes file : List ℕ) : Type 0 where
+  pub r : AnyReceipt
+  pub spelled : Spells bytes r
+  pub held : List HeldDigest
+  pub read : IsRead file (Ok held)
+  pub is : IsAcceptedAmong h r held
 
 -- the receipt under the name is accepted with a digest under the other, and no image that `verify` accepts with this
 -- digest contradicts what it shows, or two different strings of bytes have one hash, of which the first is hashed where
 -- the receipt is checked and the second where the image is verified
 pub record ShowsClaim (h : List ℕ → List ℕ) (receipt digests : List ℕ) (names : Option Names) : Type 0 where
-  pub checked : IsChecked h receipt digests names true
-  pub each : EachImageShows h checked.such.r checked.such.is.d checked.such.held checked.such.is.accepted
+  pub accepted : StandUnder receipt_limit receipt digests names (IsAcceptedOn h)
+  pub each : EachImageShows h accepted.such.r accepted.such.is.d accepted.such.held accepted.such.is.accepted

@@ -1,13 +1,14 @@
-//! Whether a receipt is accepted with the digests that an auditor holds.
+//! What is answered of a receipt or a chain, with the digests that an auditor holds.
 
-ghost use Rattle.std.specs.Prelude.{⊤, ◌≡◌, ◌⊎◌, IfOk, IfErr, IfSome};
+ghost use Rattle.std.specs.Prelude.{⊤, ◌≡◌, ◌⊎◌, string_bytes, IfOk, IfErr, IfSome};
 ghost use Rattle.base_io.specs.Count.{Rises};
 ghost use Rattle.base_io.specs.History.{Since};
+ghost use Rattle.audit_any_receipt.specs.Among.{is_yes};
 ghost use Rattle.audit_any_receipt.specs.Kinds.{IsAny, Spells};
 ghost use Rattle.cli_audit.specs.Answer.{Unfailed};
 ghost use Rattle.cli_audit.specs.Calls.{AreGets, AreWrites, Gave};
 ghost use Rattle.cli_audit.specs.Check.{receipt_limit, IsSoWith, IsCheckedOn, LacksCheck, IsChecked, LacksAnswer};
-ghost use Rattle.cli_audit.specs.Check.{check_text, CheckCause, Checks, ShowsClaim, LacksReceiptForm};
+ghost use Rattle.cli_audit.specs.Check.{answer_text, CheckCause, Checks, ShowsClaim, LacksReceiptForm};
 ghost use Rattle.cli_audit.specs.Evidence.{AreUnder, LacksEither};
 ghost use Rattle.cli_audit.specs.Verify.{AreRefused, SaidOrIdle};
 
@@ -16,12 +17,12 @@ use crate::names::{DIGESTS_LIMIT, read_name};
 use crate::transfer::write_all;
 use crate::verify::read_held;
 use audit_any_receipt::{
-    AnyReceipt, accepted_receipts_are_never_contradicted, check_any, read_any,
+    Answer, AnyReceipt, accepted_receipts_are_never_contradicted, check_any, read_any,
 };
 use base_io::{Failed, Sink, Vault};
 use base_merkle::Hash32;
 use base_types::Memory;
-use std::alloc::Global;
+use std::alloc::{AllocError, Global};
 
 /// The most bytes that a receipt may have: 16 MiB.
 const RECEIPT_LIMIT: usize = 16777216;
@@ -66,44 +67,44 @@ fn receipt_of(alloc: Global, bytes: &[u8]) -> Result<AnyReceipt, Status>
     }
 }
 
-/// Whether a receipt is accepted with the digests of this file.
+/// What is answered of a receipt with the digests of this file.
 fn judge_receipt<H: Hash32>(
     alloc: Global,
     h: H,
     receipt: &AnyReceipt,
     digests: &[u8],
-) -> Result<bool, Status>
+) -> Result<Answer, Status>
     requires { IsAny receipt.now }
     ensures checked { IfOk result (IsSoWith (H.digest h) receipt.now digests.now) }
     ensures refused { IfErr result (λ status. AreRefused status digests.now) }
 {
     let held = read_held(alloc, digests)?;
     match check_any(alloc, h, receipt, held.as_slice()) {
-        Ok(so) => Ok(so),
+        Ok(answer) => Ok(answer),
         Err(Memory) => Err(Status::Memory),
     }
 }
 
-/// Whether these bytes are an accepted receipt's, with the digests of this file.
-fn judge<H: Hash32>(alloc: Global, h: H, bytes: &[u8], digests: &[u8]) -> Result<bool, Status>
+/// What is answered of the receipt whose bytes these are, with the digests of this file.
+fn judge<H: Hash32>(alloc: Global, h: H, bytes: &[u8], digests: &[u8]) -> Result<Answer, Status>
     ensures checked { IfOk result (IsCheckedOn (H.digest h) bytes.now digests.now) }
     ensures lacks { IfErr result (λ status. LacksCheck status bytes.now digests.now) }
 {
     let receipt = receipt_of(alloc, bytes)?;
-    let so = judge_receipt(alloc, h, &receipt, digests);
+    let answer = judge_receipt(alloc, h, &receipt, digests);
     // `drop` lets each type go by a function of its own, which is proved once
     drop(receipt);
-    so
+    answer
 }
 
-/// Whether an accepted receipt stands under the name, with the digests under the other.
+/// What is answered of the receipt under a name, with the digests under the other.
 fn judge_names<H: Hash32, V: Vault>(
     alloc: Global,
     h: H,
     receipt: &str,
     digests: &str,
     vault: &mut V,
-) -> Result<bool, Status>
+) -> Result<Answer, Status>
     ensures checked { IfOk result (IsChecked (H.digest h) receipt.now digests.now (V.names vault.old)) }
     ensures lacks { IfErr result (λ status. LacksAnswer status receipt.now digests.now (V.names vault.old)
         (Rises (V.faults vault.old) (V.faults vault.new))) }
@@ -119,14 +120,33 @@ fn judge_names<H: Hash32, V: Vault>(
     judge(alloc, h, &claim.receipt, &claim.digests)
 }
 
-/// The line that is written.
-fn text_of(so: bool) -> &'static str
-    ensures { result.now ≡ check_text so }
+/// The line that is written of an answer.
+fn text_of(alloc: Global, answer: Answer) -> Result<String, AllocError>
+    ensures { IfOk result (λ text. string_bytes text ≡ answer_text answer) }
 {
-    if so { "Yes\n" } else { "No receipt\n" }
+    match answer {
+        Answer::Yes => format!(in alloc; "Yes\n"),
+        Answer::Joined { from, to } => format!(in alloc; "Yes {from} {to}\n"),
+        Answer::NoJoin { block } => format!(in alloc; "No join of block {block}\n"),
+        Answer::NoDigest { block } => format!(in alloc; "No digest of block {block}\n"),
+        Answer::NoReceipt => format!(in alloc; "No receipt\n"),
+    }
 }
 
-/// Says whether the receipt under a name is accepted with the digests under another.
+/// Whether an answer says that the receipt or chain is accepted.
+fn is_yes(answer: Answer) -> bool
+    ensures { result ≡ is_yes answer }
+{
+    match answer {
+        Answer::Yes => true,
+        Answer::Joined { .. } => true,
+        Answer::NoJoin { .. } => false,
+        Answer::NoDigest { .. } => false,
+        Answer::NoReceipt => false,
+    }
+}
+
+/// Says what is answered of the receipt or chain under a name with the digests under another.
 pub fn check_receipt<H: Hash32, K: Sink, V: Vault>(
     alloc: Global,
     h: H,
@@ -149,12 +169,19 @@ pub fn check_receipt<H: Hash32, K: Sink, V: Vault>(
         ((K.faults sink.new ≡ K.faults sink.old) × (K.stalls sink.new ≡ K.stalls sink.old)) }
 {
     accepted_receipts_are_never_contradicted();
-    let so = match judge_names(alloc, h, receipt, digests, vault) {
-        Ok(so) => so,
+    let answer = match judge_names(alloc, h, receipt, digests, vault) {
+        Ok(answer) => answer,
         Err(status) => return status,
     };
-    if let Err(Failed) = write_all(sink, text_of(so).as_bytes()) {
+    let Ok(text) = text_of(alloc, answer) else {
+        return Status::Memory;
+    };
+    if let Err(Failed) = write_all(sink, text.as_bytes()) {
         return Status::SinkFault;
     }
-    if so { Status::Done } else { Status::No }
+    if is_yes(answer) {
+        Status::Done
+    } else {
+        Status::No
+    }
 }
