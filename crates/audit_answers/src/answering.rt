@@ -6,6 +6,7 @@ ghost use Rattle.spec_asof.specs.DatabaseAt.{database_at};
 ghost use Rattle.audit_answers.specs.Told.{AreAnswers, IsTooFar, IsTried, answers_text};
 ghost use Rattle.audit_answers.specs.declared.answering.AnswersErr.TheVariants as refused;
 
+use crate::coverage::{Coverage, coverage_of};
 use audit_asof::{AsOf, AsOfErr};
 use audit_verify::verify_image;
 use base_merkle::Hash32;
@@ -21,8 +22,8 @@ use std::alloc::Global;
 pub enum Answers {
     /// The image isn't accepted, and this is the verdict on it.
     Refused(Verdict),
-    /// Each text, and behind it the lines of its answer.
-    Written(String),
+    /// Each text, and behind it the lines of its answer; and what the digests cover of the image.
+    Written { text: String, coverage: Coverage },
 }
 
 /// Why texts aren't answered.
@@ -101,7 +102,11 @@ pub fn answer_texts<H: Hash32>(
         → IsTooFar (H.digest h) digests.now bytes.now n entries) }
 {
     match accepted(alloc, h, bytes, digests) {
-        Ok(Ok(image)) => Ok(Answers::Written(answers_of(alloc, image, n, texts)?)),
+        Ok(Ok(image)) => {
+            let coverage = coverage_of(&image, digests);
+            let text = answers_of(alloc, image, n, texts)?;
+            Ok(Answers::Written { text, coverage })
+        }
         Ok(Err(verdict)) => Ok(Answers::Refused(verdict)),
         Err(Memory) => Err(AnswersErr::Memory),
     }

@@ -1,7 +1,8 @@
-//! An image verified and opened behind its first transactions, and texts answered over it.
+//! An image verified, with what digests cover of it, and opened behind its first transactions for texts to be answered.
 #![tactic(auto)]
 
 mod answering;
+mod coverage;
 
 pub use answering::{Answers, AnswersErr, accepted, answer_texts};
-pub use audit_verify::verify;
+pub use coverage::{Coverage, Judgement, coverage_of, coverage_text, judge};
