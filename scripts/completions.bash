@@ -11,7 +11,7 @@ _ledgerd_commands() {
 _ledgerd_options() {
     case $1 in
         step | run) echo --save --from --block-size --clock --database --help ;;
-        verify) echo --workers --help ;;
+        verify) echo --coverage --workers --help ;;
         receipt) echo --save --table --event --help ;;
         replay | upgrade | join) echo --save --help ;;
         asof) echo --digests --help ;;

@@ -1,9 +1,10 @@
 #!/usr/bin/env python3
 """Judges an image and digests as `ledgerd verify` does, by docs/reference/formats.md and verdicts.md alone.
 
-    tools/verify.py IMAGE DIGESTS
+    tools/verify.py IMAGE [DIGESTS] [--coverage]
 
-Writes the line of the page on verdicts, and ends with the exit status of `ledgerd verify`.
+Writes the line of the page on verdicts, and ends with the exit status of `ledgerd verify`. What the digests cover stands
+on a second line with `--coverage`, and otherwise on standard error.
 """
 
 import sys
@@ -39,6 +40,15 @@ def verdict(data: bytes, digests: list[Digest]) -> str:
         if place is not None:
             return f"No V{invariant} {place}"
     return "Yes"
+
+
+def coverage(image: Image, digests: list[Digest]) -> tuple[str, int]:
+    """What digests cover of an image with which they hold, and how many transactions they don't."""
+    newest = max((digest.block for digest in digests), default=-1)
+    covered = sum(record.size for record in image.blocks[: newest + 1])
+    blocks = f"blocks 0 to {newest}" if digests else "no block"
+    said = f"covers {covered} of {len(image.entries)} transactions, {blocks} of {len(image.blocks)}"
+    return said, len(image.entries) - covered
 
 
 # --- V1 to V3: digests, and blocks -----------------------------------------------------------------------------------
@@ -433,24 +443,38 @@ def read_file(place: int, path: str, most: int) -> bytes:
     return data
 
 
-def main(words: list[str]) -> int:
+def read_held(path: str) -> list[Digest]:
+    data = read_file(2, path, MAX_DIGESTS)
     try:
-        if len(words) != 2:
-            raise Ended(2, "verify.py IMAGE DIGESTS")
-        image, held = read_file(1, words[0], MAX_IMAGE), read_file(2, words[1], MAX_DIGESTS)
-        try:
-            digests = read_digests(held)
-        except NoDigest as error:
-            raise Ended(8, f"the digests were refused (digest {error})") from error
-        except Malformed as error:
-            raise Ended(8, "the digests were refused") from error
+        return read_digests(data)
+    except NoDigest as error:
+        raise Ended(8, f"the digests were refused (digest {error})") from error
+    except Malformed as error:
+        raise Ended(8, "the digests were refused") from error
+
+
+def main(words: list[str]) -> int:
+    shows = words[-1:] == ["--coverage"]
+    names = words[:-1] if shows else words
+    try:
+        if len(names) not in (1, 2):
+            raise Ended(2, "verify.py IMAGE [DIGESTS] [--coverage]")
+        image = read_file(1, names[0], MAX_IMAGE)
+        digests = read_held(names[1]) if len(names) == 2 else []
     except Ended as ended:
         status, said = ended.args
         print(f"verify.py: {said}", file=sys.stderr)
         return status
     line = verdict(image, digests)
     print(line)
-    return 0 if line == "Yes" else 1
+    if line != "Yes":
+        return 1
+    said, left = coverage(read_image(image), digests)
+    if shows:
+        print(said)
+    else:
+        print(f"verify.py: {said}; no digest covers {left}", file=sys.stderr)
+    return 17 if len(names) == 2 and not digests else 0
 
 
 if __name__ == "__main__":

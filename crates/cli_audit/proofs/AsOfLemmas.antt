@@ -10,13 +10,15 @@ use Rattle.base_io.specs.Store.{Names}
 use Rattle.sql_types.specs.declared.digest.HeldDigest.{HeldDigest}
 use Rattle.format_asof.specs.Texts.{texts_of}
 use Rattle.spec_verify.specs.declared.place.Verdict.{Verdict}
+use Rattle.audit_answers.specs.declared.coverage.Coverage.{Coverage}
 use Rattle.audit_answers.specs.declared.answering.Answers.{Answers}
 use Rattle.audit_answers.specs.declared.answering.Answers.TheVariants.{Refused, Written}
 use Rattle.cli_audit.specs.declared.status.Status.{Status}
-use Rattle.cli_audit.specs.declared.status.Status.TheVariants.{Done, No, Words, Limit, SourceFault, SinkFault, VaultFault, Missing, Digests, Journal, Form, Memory, NotImage, NoEntry, Receipt, TooFar}
+use Rattle.cli_audit.specs.declared.status.Status.TheVariants.{Done, No, Words, Limit, SourceFault, SinkFault, VaultFault, Missing, Digests, Journal, Form, Memory, NotImage, NoEntry, Receipt, TooFar, NoDigestHeld}
 use Rattle.cli_audit.specs.Answer.{Unfailed}
 use Rattle.cli_audit.specs.declared.transfer.ReadErr.TheVariants as reading
-use Rattle.cli_audit.specs.AsOf.{AreHeld, AreReadsBehind, AreSubject, AreToldSo, AsOfCause, EndsSaying, FileIsRefused, HasAnswered, HasReadBehind, HasSubject, IsTold, IsUnread, LacksAnswers, LacksSubject, LacksTexts, LacksTold, SaysAnswers, StandAndCame}
+use Rattle.cli_audit.specs.AsOf.{AreReadsBehind, AreToldSo, AsOfCause, EndsSaying, HasAnswered, HasReadBehind, IsTold, IsUnread, LacksAnswers, LacksTexts, LacksTold, SaysAnswers, StandAndCame, answers_note}
+use Rattle.cli_audit.specs.Subject.{AreHeld, AreSubject, FileIsRefused, HasSubject, LacksSubject}
 use Rattle.cli_audit.specs.Calls.{AreGets, AreGetsBefore, AreWrites, Gave, Moved}
 use Rattle.cli_audit.specs.Receipt.{EndsRefusing}
 use Rattle.cli_audit.specs.Transfer.{input_limit, IsInputRead, IsTooMuch}
@@ -96,6 +98,7 @@ by_unread P input source long failed short NoEntry unread = absurd unread
 by_unread P input source long failed short NotImage unread = absurd unread
 by_unread P input source long failed short Receipt unread = absurd unread
 by_unread P input source long failed short (TooFar entries) unread = absurd unread
+by_unread P input source long failed short NoDigestHeld unread = absurd unread
 
 module _ (input : Option (List ℕ)) (source : Type 0) (status : Status) (unread : IsUnread status input source) where
   pub unread_answers : (h : List ℕ → List ℕ) (image : List ℕ) (n : ℕ) (digests : Option (List ℕ)) (names : Option Names) (vault : Type 0)
@@ -133,6 +136,7 @@ texts_lacking h n bytes file input NoEntry lacks = absurd lacks
 texts_lacking h n bytes file input NotImage lacks = absurd lacks
 texts_lacking h n bytes file input Receipt lacks = absurd lacks
 texts_lacking h n bytes file input (TooFar entries) lacks = absurd lacks
+texts_lacking h n bytes file input NoDigestHeld lacks = absurd lacks
 
 file_refused : (h : List ℕ → List ℕ) (n : ℕ) (bytes file input : List ℕ) (texts : List (List ℕ)) → texts_of input ≡ Ok texts → (status : Status) → AreRefused status file
     → LacksTold status h n bytes (Some file) input
@@ -152,6 +156,7 @@ file_refused h n bytes file input texts read NoEntry refused = absurd refused
 file_refused h n bytes file input texts read NotImage refused = absurd refused
 file_refused h n bytes file input texts read Receipt refused = absurd refused
 file_refused h n bytes file input texts read (TooFar entries) refused = absurd refused
+file_refused h n bytes file input texts read NoDigestHeld refused = absurd refused
 
 pub file_lacking : (h : List ℕ → List ℕ) (n : ℕ) (bytes : List ℕ) (file : Option (List ℕ)) (input : List ℕ) (texts : List (List ℕ)) → texts_of input ≡ Ok texts → (status : Status)
     → FileIsRefused status file → LacksTold status h n bytes file input
@@ -177,6 +182,7 @@ module _ (h : List ℕ → List ℕ) (n : ℕ) (bytes : List ℕ) (file : Option
   by_told P digests form far short (Form line) lacks = form line lacks
   by_told P digests form far short Memory lacks = short
   by_told P digests form far short (TooFar entries) lacks = far entries lacks
+  by_told P digests form far short NoDigestHeld lacks = absurd lacks
   by_told P digests form far short Done lacks = absurd lacks
   by_told P digests form far short No lacks = absurd lacks
   by_told P digests form far short Words lacks = absurd lacks
@@ -250,6 +256,7 @@ module _ (h : List ℕ → List ℕ) (image : List ℕ) (n : ℕ) (digests input
   by_lacking P long failed source missing digests form far short (Form line) lacks = form line
   by_lacking P long failed source missing digests form far short Memory lacks = short
   by_lacking P long failed source missing digests form far short (TooFar entries) lacks = far entries
+  by_lacking P long failed source missing digests form far short NoDigestHeld lacks = absurd lacks.such
   by_lacking P long failed source missing digests form far short Done lacks = absurd lacks.such
   by_lacking P long failed source missing digests form far short No lacks = absurd lacks.such
   by_lacking P long failed source missing digests form far short Words lacks = absurd lacks.such
@@ -276,62 +283,64 @@ module _ (h : List ℕ → List ℕ) (image : List ℕ) (n : ℕ) (digests input
 
 -- ---- saying what is told
 
-pub ends_refusing : (verdict : Verdict) (sink : Type 0) (old new : Option (List ℕ)) (idle : Type 0) (status : Status) → EndsRefusing status verdict sink old new idle
-    → EndsSaying status (Refused verdict) sink old new idle
-ends_refusing verdict sink old new idle No ends = ends.1
-ends_refusing verdict sink old new idle SinkFault ends = ends
-ends_refusing verdict sink old new idle Memory ends = ends
-ends_refusing verdict sink old new idle Done ends = absurd ends
-ends_refusing verdict sink old new idle Words ends = absurd ends
-ends_refusing verdict sink old new idle Limit ends = absurd ends
-ends_refusing verdict sink old new idle SourceFault ends = absurd ends
-ends_refusing verdict sink old new idle VaultFault ends = absurd ends
-ends_refusing verdict sink old new idle (Missing which) ends = absurd ends
-ends_refusing verdict sink old new idle (Digests index) ends = absurd ends
-ends_refusing verdict sink old new idle (Journal at) ends = absurd ends
-ends_refusing verdict sink old new idle (Form line) ends = absurd ends
-ends_refusing verdict sink old new idle NoEntry ends = absurd ends
-ends_refusing verdict sink old new idle NotImage ends = absurd ends
-ends_refusing verdict sink old new idle Receipt ends = absurd ends
-ends_refusing verdict sink old new idle (TooFar entries) ends = absurd ends
+pub ends_refusing : (digests : Option (List ℕ)) (verdict : Verdict) (sink : Type 0) (old new : Option (List ℕ)) (idle : Type 0) (status : Status) → EndsRefusing status verdict sink old new idle
+    → EndsSaying status digests (Refused verdict) sink old new idle
+ends_refusing digests verdict sink old new idle No ends = ends.1
+ends_refusing digests verdict sink old new idle SinkFault ends = ends
+ends_refusing digests verdict sink old new idle Memory ends = ends
+ends_refusing digests verdict sink old new idle Done ends = absurd ends
+ends_refusing digests verdict sink old new idle Words ends = absurd ends
+ends_refusing digests verdict sink old new idle Limit ends = absurd ends
+ends_refusing digests verdict sink old new idle SourceFault ends = absurd ends
+ends_refusing digests verdict sink old new idle VaultFault ends = absurd ends
+ends_refusing digests verdict sink old new idle (Missing which) ends = absurd ends
+ends_refusing digests verdict sink old new idle (Digests index) ends = absurd ends
+ends_refusing digests verdict sink old new idle (Journal at) ends = absurd ends
+ends_refusing digests verdict sink old new idle (Form line) ends = absurd ends
+ends_refusing digests verdict sink old new idle NoEntry ends = absurd ends
+ends_refusing digests verdict sink old new idle NotImage ends = absurd ends
+ends_refusing digests verdict sink old new idle Receipt ends = absurd ends
+ends_refusing digests verdict sink old new idle (TooFar entries) ends = absurd ends
+ends_refusing digests verdict sink old new idle NoDigestHeld ends = absurd ends
 
-module _ (answers : Answers) (sink : Type 0) (old new : Option (List ℕ)) (idle : Type 0) where
-  by_saying : (P : Status → Type 0) → (HasAnswered Done answers old new → P Done) → (HasAnswered No answers old new → P No)
-      → (sink → HasAnswered SinkFault answers old new → P SinkFault) → (idle → P Memory) → (status : Status) → EndsSaying status answers sink old new idle → P status
-  by_saying P done other faulty short Done ends = done ends
-  by_saying P done other faulty short No ends = other ends
-  by_saying P done other faulty short SinkFault ends = faulty ends.0 ends.1
-  by_saying P done other faulty short Memory ends = short ends
-  by_saying P done other faulty short Words ends = absurd ends
-  by_saying P done other faulty short Limit ends = absurd ends
-  by_saying P done other faulty short SourceFault ends = absurd ends
-  by_saying P done other faulty short VaultFault ends = absurd ends
-  by_saying P done other faulty short (Missing which) ends = absurd ends
-  by_saying P done other faulty short (Digests index) ends = absurd ends
-  by_saying P done other faulty short (Journal at) ends = absurd ends
-  by_saying P done other faulty short (Form line) ends = absurd ends
-  by_saying P done other faulty short NoEntry ends = absurd ends
-  by_saying P done other faulty short NotImage ends = absurd ends
-  by_saying P done other faulty short Receipt ends = absurd ends
-  by_saying P done other faulty short (TooFar entries) ends = absurd ends
+module _ (digests : Option (List ℕ)) (answers : Answers) (sink : Type 0) (old new : Option (List ℕ)) (idle : Type 0) where
+  by_saying : (P : Status → Type 0) → (HasAnswered Done digests answers old new → P Done) → (HasAnswered NoDigestHeld digests answers old new → P NoDigestHeld) → (HasAnswered No digests answers old new → P No)
+      → (sink → HasAnswered SinkFault digests answers old new → P SinkFault) → (idle → P Memory) → (status : Status) → EndsSaying status digests answers sink old new idle → P status
+  by_saying P done without other faulty short Done ends = done ends
+  by_saying P done without other faulty short No ends = other ends
+  by_saying P done without other faulty short SinkFault ends = faulty ends.0 ends.1
+  by_saying P done without other faulty short Memory ends = short ends
+  by_saying P done without other faulty short Words ends = absurd ends
+  by_saying P done without other faulty short Limit ends = absurd ends
+  by_saying P done without other faulty short SourceFault ends = absurd ends
+  by_saying P done without other faulty short VaultFault ends = absurd ends
+  by_saying P done without other faulty short (Missing which) ends = absurd ends
+  by_saying P done without other faulty short (Digests index) ends = absurd ends
+  by_saying P done without other faulty short (Journal at) ends = absurd ends
+  by_saying P done without other faulty short (Form line) ends = absurd ends
+  by_saying P done without other faulty short NoEntry ends = absurd ends
+  by_saying P done without other faulty short NotImage ends = absurd ends
+  by_saying P done without other faulty short Receipt ends = absurd ends
+  by_saying P done without other faulty short (TooFar entries) ends = absurd ends
+  by_saying P done without other faulty short NoDigestHeld ends = without ends
 
   -- all that the source and the vault are called for came before
-  module _ (status : Status) (ends : EndsSaying status answers sink old new idle) where
+  module _ (status : Status) (ends : EndsSaying status digests answers sink old new idle) where
     pub reads_said : (before behind : List (Result ℕ Failed) → Type 0) → Since before behind (EndsAt Moved (Ok 0)) → Since before behind (AreReadsBehind status)
     reads_said before behind =
         since_weaker before behind (EndsAt Moved (Ok 0)) (AreReadsBehind status)
         (by_saying (λ s. (answered : List (Result ℕ Failed)) → EndsAt Moved (Ok 0) answered → AreReadsBehind s answered)
-        (λ said answered end. end) (λ said answered end. end) (λ fault said answered end. end) (λ is answered end. inr (inr end)) status ends)
+        (λ said answered end. end) (λ said answered end. end) (λ said answered end. end) (λ fault said answered end. end) (λ is answered end. inr (inr end)) status ends)
 
     pub gets_said : (k : ℕ) (before behind : List (Result ⊤ VaultErr) → Type 0) → Since before behind (Gave k) → Since before behind (AreGetsBefore k status)
     gets_said k before behind =
         since_weaker before behind (Gave k) (AreGetsBefore k status)
         (by_saying (λ s. (answered : List (Result ⊤ VaultErr)) → Gave k answered → AreGetsBefore k s answered)
-        (λ said answered gave. gave) (λ said answered gave. gave) (λ fault said answered gave. gave) (λ is answered gave. (inl gave.0, omega (arith, gave.1))) status ends)
+        (λ said answered gave. gave) (λ said answered gave. gave) (λ said answered gave. gave) (λ fault said answered gave. gave) (λ is answered gave. (inl gave.0, omega (arith, gave.1))) status ends)
 
     read_all_said : (all : List ℕ) (rest : Option (List ℕ)) → length all ≤ input_limit → rest ≡ Some [] → HasReadBehind status all rest
     read_all_said all rest within is =
-        by_saying (λ s. HasReadBehind s all rest) (λ said. is) (λ said. is) (λ fault said. is)
+        by_saying (λ s. HasReadBehind s all rest) (λ said. is) (λ said. is) (λ said. is) (λ fault said. is)
         (λ short. (length all, omega (arith, within), is ∙ ap Some (sym (drop-length all)))) status ends
 
     pub read_said : (input rest : Option (List ℕ)) (came : List ℕ) → IfSome input (λ all. came ≡ all) → length came ≤ input_limit → IfSome input (λ all. rest ≡ Some [])
@@ -341,18 +350,23 @@ module _ (answers : Answers) (sink : Type 0) (old new : Option (List ℕ)) (idle
 
     pub unfailed_said : (s v k : Type 0) → s → v → Unfailed status ⊤ ⊤ k → Unfailed status s v k
     unfailed_said s v k is also =
-        by_saying (λ e. Unfailed e ⊤ ⊤ k → Unfailed e s v k) (λ said u. (is, also, u.2)) (λ said u. (is, also, u.2)) (λ fault said u. (is, also)) (λ short u. (is, also, u.2)) status ends
+        by_saying (λ e. Unfailed e ⊤ ⊤ k → Unfailed e s v k) (λ said u. (is, also, u.2)) (λ said u. (is, also, u.2)) (λ said u. (is, also, u.2)) (λ fault said u. (is, also)) (λ short u. (is, also, u.2)) status ends
 
 -- what is said, by what was told
 module _ (h : List ℕ → List ℕ) (image : List ℕ) (n : ℕ) (digests input : Option (List ℕ)) (names : Option Names) where
   cause_done : (source vault sink : Type 0) (old new : Option (List ℕ)) (answers : Answers) → StandAndCame image digests names input (IsTold h n answers)
-      → HasAnswered Done answers old new → AsOfCause Done h image n digests input names source vault sink
-  cause_done source vault sink old new (Written text) told said = (string_bytes text, told)
+      → HasAnswered Done digests answers old new → AsOfCause Done h image n digests input names source vault sink
+  cause_done source vault sink old new (Written text coverage) told said = (string_bytes text, coverage, said.0, told)
   cause_done source vault sink old new (Refused verdict) told said = absurd said
 
+  cause_without : (source vault sink : Type 0) (old new : Option (List ℕ)) (answers : Answers) → StandAndCame image digests names input (IsTold h n answers)
+      → HasAnswered NoDigestHeld digests answers old new → AsOfCause NoDigestHeld h image n digests input names source vault sink
+  cause_without source vault sink old new (Written text coverage) told said = (string_bytes text, coverage, said.0, told)
+  cause_without source vault sink old new (Refused verdict) told said = absurd said
+
   cause_no : (source vault sink : Type 0) (old new : Option (List ℕ)) (answers : Answers) → StandAndCame image digests names input (IsTold h n answers)
-      → HasAnswered No answers old new → AsOfCause No h image n digests input names source vault sink
-  cause_no source vault sink old new (Written text) told said = absurd said
+      → HasAnswered No digests answers old new → AsOfCause No h image n digests input names source vault sink
+  cause_no source vault sink old new (Written text coverage) told said = absurd said
   cause_no source vault sink old new (Refused verdict) told said = (
     verdict,
     told.such.such.0,
@@ -368,14 +382,14 @@ module _ (h : List ℕ → List ℕ) (image : List ℕ) (n : ℕ) (digests input
   )
 
   module _ (answers : Answers) (told : StandAndCame image digests names input (IsTold h n answers)) (sink : Type 0) (old new : Option (List ℕ)) (idle : Type 0)
-      (status : Status) (ends : EndsSaying status answers sink old new idle) where
+      (status : Status) (ends : EndsSaying status digests answers sink old new idle) where
     pub cause_said : (source vault : Type 0) → AsOfCause status h image n digests input names source vault sink
     cause_said source vault =
-        by_saying answers sink old new idle (λ s. AsOfCause s h image n digests input names source vault sink)
-        (cause_done source vault sink old new answers told) (cause_no source vault sink old new answers told) (λ fault said. fault) (λ is. tt) status ends
+        by_saying digests answers sink old new idle (λ s. AsOfCause s h image n digests input names source vault sink)
+        (cause_done source vault sink old new answers told) (cause_without source vault sink old new answers told) (cause_no source vault sink old new answers told) (λ fault said. fault) (λ is. tt) status ends
 
-    pub answered_said : SaidOrIdle status (SaysAnswers status h image n digests input names old new) idle
-    answered_said =
-        by_saying answers sink old new idle (λ s. SaidOrIdle s (SaysAnswers s h image n digests input names old new) idle)
-        (λ said. record { answers = answers; told = told; said = said }) (λ said. record { answers = answers; told = told; said = said })
-        (λ fault said. record { answers = answers; told = told; said = said }) (λ is. is) status ends
+    pub answered_said : (covers : Option Coverage) → covers ≡ answers_note digests answers → SaidOrIdle status (SaysAnswers status h image n digests covers input names old new) idle
+    answered_said covers noted =
+        by_saying digests answers sink old new idle (λ s. SaidOrIdle s (SaysAnswers s h image n digests covers input names old new) idle)
+        (λ said. record { answers = answers; told = told; said = said; noted = noted }) (λ said. record { answers = answers; told = told; said = said; noted = noted })
+        (λ said. record { answers = answers; told = told; said = said; noted = noted }) (λ fault said. record { answers = answers; told = told; said = said; noted = noted }) (λ is. is) status ends

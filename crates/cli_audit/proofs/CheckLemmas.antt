@@ -9,7 +9,7 @@ use Rattle.audit_any_receipt.specs.Among.{IsAcceptedAmong, IsAcceptedBy, IsAnswe
 use Rattle.audit_any_receipt.specs.Kinds.{IsAny, Spells}
 use Rattle.audit_any_receipt.specs.Shows.{EachImageShows}
 use Rattle.cli_audit.specs.declared.status.Status.{Status}
-use Rattle.cli_audit.specs.declared.status.Status.TheVariants.{Done, No, Words, Limit, SourceFault, SinkFault, VaultFault, Missing, Digests, Journal, Form, Memory, NotImage, NoEntry, Receipt, TooFar}
+use Rattle.cli_audit.specs.declared.status.Status.TheVariants.{Done, No, Words, Limit, SourceFault, SinkFault, VaultFault, Missing, Digests, Journal, Form, Memory, NotImage, NoEntry, Receipt, TooFar, NoDigestHeld}
 use Rattle.cli_audit.specs.Check.{IsSoWith, IsCheckedOn, LacksCheck, IsChecked, ShowsClaim}
 use Rattle.cli_audit.specs.Verify.{AreRefused}
 
@@ -36,6 +36,7 @@ module _ (bytes file : List ℕ) (r : AnyReceipt) (spelled : Spells bytes r) whe
   lacks_digests NoEntry refused = absurd refused
   lacks_digests Receipt refused = absurd refused
   lacks_digests (TooFar entries) refused = absurd refused
+  lacks_digests NoDigestHeld refused = absurd refused
 
   pub lacks_check : (result : Result Answer Status) → IfErr result (λ status. AreRefused status file) → IfErr result (λ status. LacksCheck status bytes file)
   lacks_check (Ok answer) refused = tt
@@ -47,17 +48,17 @@ AreNeverContradicted = (h : List ℕ → List ℕ) (r : AnyReceipt) (d : HeldDig
     → ((bytes : List ℕ) → length (h bytes) ≡ 32) → IsAny r → (x : IsAcceptedBy h r d held) → EachImageShows h r d held x
 
 accepted_of : (h : List ℕ → List ℕ) (r : AnyReceipt) (held : List HeldDigest) (answer : Answer) → is_yes answer ≡ true → IsAnswer h r held answer → IsAcceptedAmong h r held
-accepted_of h r held answers.Yes yes is = is.1
-accepted_of h r held (answers.Joined from to) yes is = is.1
-accepted_of h r held (answers.NoJoin block) yes is = cc
-accepted_of h r held (answers.NoDigest block) yes is = cc
-accepted_of h r held answers.NoReceipt yes is = cc
+accepted_of h r held answers.Yes so is = is.1
+accepted_of h r held (answers.Joined from to) so is = is.1
+accepted_of h r held (answers.NoJoin block) so is = cc
+accepted_of h r held (answers.NoDigest block) so is = cc
+accepted_of h r held answers.NoReceipt so is = cc
 
 pub shows_claim : AreNeverContradicted → (h : List ℕ → List ℕ) → ((bytes : List ℕ) → length (h bytes) ≡ 32) → (receipt digests : List ℕ) (names : Option Names) (answer : Answer) → is_yes answer ≡ true
     → IsChecked h receipt digests names answer → ShowsClaim h receipt digests names
-shows_claim never h sized receipt digests names answer yes checked =
+shows_claim never h sized receipt digests names answer so checked =
     let s = checked.such in
-    let is = accepted_of h s.r s.held answer yes s.is in
+    let is = accepted_of h s.r s.held answer so s.is in
     record {
       accepted = record {
         bytes = checked.bytes;

@@ -8,6 +8,8 @@ use Rattle.spec_verify.specs.Bytes.{verdict_of}
 use Rattle.spec_verify.proofs.Judged.{of_spelling}
 use Rattle.cli_audit.specs.declared.status.Status.{Status}
 use Rattle.audit_extract.specs.declared.found.ImageComparison.{ImageComparison}
+use Rattle.audit_answers.specs.declared.coverage.Coverage.{Coverage}
+use Rattle.audit_answers.specs.Covers.{coverage_of}
 use Rattle.audit_answers.specs.Told.{IsTried}
 use Rattle.cli_audit.specs.declared.extract.Finding.{Finding}
 use Rattle.cli_audit.specs.declared.extract.Finding.TheVariants.{Honest, Suspect, Compared}
@@ -33,16 +35,17 @@ third_lacks status before between now honest suspect digests a b first second pr
 
 -- ---- what two accepted images are to each other
 
-abbrev pub compared_text : ImageComparison → List ℕ
-compared_text outcome = finding_text (Compared outcome)
+abbrev pub compared_text : ImageComparison → Coverage → List ℕ
+compared_text outcome coverage = finding_text (Compared outcome coverage)
 
-abbrev pub compared_status : ImageComparison → Status
-compared_status outcome = finding_status (Compared outcome)
+abbrev pub compared_status : ImageComparison → Coverage → Status
+compared_status outcome coverage = finding_status (Compared outcome coverage)
 
 -- of two images that are accepted nothing else is found
 pub compared_of_accepted : (h : List ℕ → List ℕ) (held : List HeldDigest) (a b : List ℕ) → verdict_of h held a ≡ Yes → verdict_of h held b ≡ Yes
     → (finding : Finding) → IsFoundWith h held a b finding
-    → (outcome : ImageComparison) × AreCompared h held a b outcome × (finding_text finding ≡ compared_text outcome) × (finding_status finding ≡ compared_status outcome)
+    → (outcome : ImageComparison) × (coverage : Coverage) × (both : AreCompared h held a b outcome) × (coverage ≡ coverage_of both.suspect held)
+    × (finding_text finding ≡ compared_text outcome coverage) × (finding_status finding ≡ compared_status outcome coverage)
 compared_of_accepted h held a b yes_a yes_b (Honest verdict) found = absurd (found.0 (found.1 ∙ yes_a))
 compared_of_accepted h held a b yes_a yes_b (Suspect verdict) found = absurd (found.1.0 (found.1.1 ∙ yes_b))
-compared_of_accepted h held a b yes_a yes_b (Compared outcome) found = (outcome, found, refl, refl)
+compared_of_accepted h held a b yes_a yes_b (Compared outcome coverage) found = (outcome, coverage, found.0, found.1, refl, refl)

@@ -8,7 +8,7 @@ use Rattle.base_io.specs.declared.vault.VaultErr.TheVariants as refused
 use Rattle.base_io.specs.History.{Adds, Since, EndsAt}
 use Rattle.base_io.specs.Store.{Names}
 use Rattle.cli_audit.specs.declared.status.Status.{Status}
-use Rattle.cli_audit.specs.declared.status.Status.TheVariants.{Done, No, Words, Limit, SourceFault, SinkFault, VaultFault, Missing, Digests, Journal, Form, Memory, NotImage, NoEntry, Receipt, TooFar}
+use Rattle.cli_audit.specs.declared.status.Status.TheVariants.{Done, No, Words, Limit, SourceFault, SinkFault, VaultFault, Missing, Digests, Journal, Form, Memory, NotImage, NoEntry, Receipt, TooFar, NoDigestHeld}
 use Rattle.cli_audit.specs.Calls.{GaveFile, Gave, AreGets}
 use Rattle.cli_audit.specs.Names.{LacksName, name_answer}
 use Rattle.cli_audit.proofs.CallLemmas.{adds_more, since_none, since_weaker}
@@ -60,6 +60,7 @@ lacks_next old mid new n k limit NoEntry names name few lacks so_far one = absur
 lacks_next old mid new n k limit NotImage names name few lacks so_far one = absurd lacks
 lacks_next old mid new n k limit Receipt names name few lacks so_far one = absurd lacks
 lacks_next old mid new n k limit (TooFar entries) names name few lacks so_far one = absurd lacks
+lacks_next old mid new n k limit NoDigestHeld names name few lacks so_far one = absurd lacks
 lacks_next old mid new n k limit (Journal at) names name few lacks so_far one = absurd lacks
 lacks_next old mid new n k limit (Form line) names name few lacks so_far one = absurd lacks
 
@@ -90,6 +91,7 @@ by_name P long failed missing short NoEntry is = absurd is
 by_name P long failed missing short NotImage is = absurd is
 by_name P long failed missing short Receipt is = absurd is
 by_name P long failed missing short (TooFar entries) is = absurd is
+by_name P long failed missing short NoDigestHeld is = absurd is
 
 pub name_lacks : (which limit : ℕ) (names : Option Names) (name : List ℕ) (status : Status) → LacksName status which limit names name → IsAtName status
 name_lacks which limit names name Limit lacks = tt
@@ -108,3 +110,4 @@ name_lacks which limit names name NoEntry lacks = absurd lacks
 name_lacks which limit names name NotImage lacks = absurd lacks
 name_lacks which limit names name Receipt lacks = absurd lacks
 name_lacks which limit names name (TooFar entries) lacks = absurd lacks
+name_lacks which limit names name NoDigestHeld lacks = absurd lacks

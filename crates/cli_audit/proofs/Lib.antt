@@ -10,3 +10,4 @@ mod ReceiptLemmas
 pub mod ReplayLemmas
 mod TransferLemmas
 mod UpgradeLemmas
+mod VerifyLemmas

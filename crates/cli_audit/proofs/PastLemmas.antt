@@ -19,7 +19,7 @@ use Rattle.audit_replay.specs.declared.past.Past.{Past}
 use Rattle.audit_replay.specs.declared.running.ReplayErr.{ReplayErr}
 use Rattle.audit_replay.specs.declared.running.ReplayErr.TheVariants as errors
 use Rattle.cli_audit.specs.declared.status.Status.{Status}
-use Rattle.cli_audit.specs.declared.status.Status.TheVariants.{Done, No, Words, Limit, SourceFault, SinkFault, VaultFault, Missing, Digests, Journal, Form, Memory, NotImage, NoEntry, Receipt, TooFar}
+use Rattle.cli_audit.specs.declared.status.Status.TheVariants.{Done, No, Words, Limit, SourceFault, SinkFault, VaultFault, Missing, Digests, Journal, Form, Memory, NotImage, NoEntry, Receipt, TooFar, NoDigestHeld}
 use Rattle.cli_audit.specs.Answer.{Unfailed}
 use Rattle.cli_audit.specs.AsOf.{AreReadsBehind, HasReadBehind, IsUnread}
 use Rattle.cli_audit.specs.Calls.{AreGets, AreGetsInputAndPuts, ArePuts, Behind, Gave}
@@ -61,6 +61,7 @@ by_refused P bytes none short NoEntry refused = absurd refused
 by_refused P bytes none short NotImage refused = absurd refused
 by_refused P bytes none short Receipt refused = absurd refused
 by_refused P bytes none short (TooFar entries) refused = absurd refused
+by_refused P bytes none short NoDigestHeld refused = absurd refused
 
 module _ (status : Status) (bytes : List ℕ) (refused : AreRefused status bytes) where
   pub lacks_journal : (name : List ℕ) (names : Option Names) (vault : Type 0) → IsUnderName name names bytes → LacksJournal status name names vault
@@ -103,6 +104,7 @@ lacks_past NoEntry name names vault lacks = absurd lacks
 lacks_past NotImage name names vault lacks = absurd lacks
 lacks_past Receipt name names vault lacks = absurd lacks
 lacks_past (TooFar entries) name names vault lacks = absurd lacks
+lacks_past NoDigestHeld name names vault lacks = absurd lacks
 
 -- ---- a journal from which none goes on
 
@@ -167,6 +169,7 @@ by_past P name names vault long missing refused failed short NoEntry lacks = abs
 by_past P name names vault long missing refused failed short NotImage lacks = absurd lacks
 by_past P name names vault long missing refused failed short Receipt lacks = absurd lacks
 by_past P name names vault long missing refused failed short (TooFar entries) lacks = absurd lacks
+by_past P name names vault long missing refused failed short NoDigestHeld lacks = absurd lacks
 by_past P name names vault long missing refused failed short (Form line) lacks = absurd lacks
 
 module _ (name : List ℕ) (names : Option Names) (vault : Type 0) (status : Status) (lacks : LacksPast status name names vault) where
@@ -237,6 +240,7 @@ by_run P done many faulty failed form short NoEntry is = absurd is
 by_run P done many faulty failed form short NotImage is = absurd is
 by_run P done many faulty failed form short Receipt is = absurd is
 by_run P done many faulty failed form short (TooFar entries) is = absurd is
+by_run P done many faulty failed form short NoDigestHeld is = absurd is
 
 module _ (old mid new : Answers → Type 0) (k : ℕ) where
   -- nothing was put

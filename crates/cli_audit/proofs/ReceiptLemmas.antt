@@ -14,7 +14,7 @@ use Rattle.audit_any_receipt.specs.Wanted.{HasNoneUnder, IsReceiptUnder}
 use Rattle.audit_answers.specs.Told.{IsTried}
 use Rattle.cli_audit.specs.declared.files.File.{File}
 use Rattle.cli_audit.specs.declared.status.Status.{Status}
-use Rattle.cli_audit.specs.declared.status.Status.TheVariants.{Done, No, Words, Limit, SourceFault, SinkFault, VaultFault, Missing, Digests, Journal, Form, Memory, NotImage, NoEntry, Receipt, TooFar}
+use Rattle.cli_audit.specs.declared.status.Status.TheVariants.{Done, No, Words, Limit, SourceFault, SinkFault, VaultFault, Missing, Digests, Journal, Form, Memory, NotImage, NoEntry, Receipt, TooFar, NoDigestHeld}
 use Rattle.cli_audit.specs.Answer.{HasPut, HasWritten, EndsBy}
 use Rattle.cli_audit.specs.Files.{TellsLeft, TellsHeld, FirstArePut, put_held}
 use Rattle.cli_audit.specs.Receipt.{LacksUnder, IsReceiptOn, LacksShown, HasReceipt, ReceiptCause, receipt_name, receipt_file, receipt_text, Receipted, EndsRefusing, SaysNo, ReceiptedOrIdle, PutsReceipt}
@@ -55,6 +55,7 @@ module _ (h : List ℕ → List ℕ) (w : Wanted) (bytes file : List ℕ) (held 
   lacks_on (Form line) lacks = absurd lacks
   lacks_on Receipt lacks = absurd lacks
   lacks_on (TooFar entries) lacks = absurd lacks
+  lacks_on NoDigestHeld lacks = absurd lacks
 
 -- ---- the receipt was put
 
@@ -105,6 +106,7 @@ module _ (verdict : Verdict) (sink : Type 0) (taken now : Option (List ℕ)) (sa
   by_refusing P said faulty short NotImage ends = absurd ends
   by_refusing P said faulty short Receipt ends = absurd ends
   by_refusing P said faulty short (TooFar entries) ends = absurd ends
+  by_refusing P said faulty short NoDigestHeld ends = absurd ends
 
   module _ (status : Status) (ends : EndsRefusing status verdict sink taken now same)
       (h : List ℕ → List ℕ) (image digests : List ℕ) (names : Option Names) (other : verdict ≡ Yes → ⊥) (judged : IsJudged h image digests names verdict) where

@@ -33,7 +33,7 @@ use Rattle.audit_replay.specs.declared.running.ReplayErr.{ReplayErr}
 use Rattle.audit_replay.specs.declared.running.ReplayErr.TheVariants as errors
 use Rattle.cli_audit.specs.declared.files.File.{File}
 use Rattle.cli_audit.specs.declared.status.Status.{Status}
-use Rattle.cli_audit.specs.declared.status.Status.TheVariants.{Done, No, Words, Limit, SourceFault, SinkFault, VaultFault, Missing, Digests, Journal, Form, Memory, NotImage, NoEntry, Receipt, TooFar}
+use Rattle.cli_audit.specs.declared.status.Status.TheVariants.{Done, No, Words, Limit, SourceFault, SinkFault, VaultFault, Missing, Digests, Journal, Form, Memory, NotImage, NoEntry, Receipt, TooFar, NoDigestHeld}
 use Rattle.cli_audit.specs.Answer.{HasPut, HasWritten, EndsBy, Unfailed}
 use Rattle.cli_audit.specs.Calls.{Gave, AreGets, ArePuts, Behind, AreGetsAndPuts, AreWrites}
 use Rattle.cli_audit.specs.Files.{TellsLeft, TellsHeld, FirstArePut, put_held}
@@ -143,6 +143,7 @@ by_end P vault sink done faulty failed short NoEntry ends = absurd ends
 by_end P vault sink done faulty failed short NotImage ends = absurd ends
 by_end P vault sink done faulty failed short Receipt ends = absurd ends
 by_end P vault sink done faulty failed short (TooFar entries) ends = absurd ends
+by_end P vault sink done faulty failed short NoDigestHeld ends = absurd ends
 by_end P vault sink done faulty failed short (Journal at) ends = absurd ends
 by_end P vault sink done faulty failed short (Form line) ends = absurd ends
 
@@ -164,6 +165,7 @@ by_image P bytes refused short NoEntry lacks = absurd lacks
 by_image P bytes refused short NotImage lacks = absurd lacks
 by_image P bytes refused short Receipt lacks = absurd lacks
 by_image P bytes refused short (TooFar entries) lacks = absurd lacks
+by_image P bytes refused short NoDigestHeld lacks = absurd lacks
 by_image P bytes refused short (Form line) lacks = absurd lacks
 
 -- a name that leads to none
@@ -184,6 +186,7 @@ by_name P name names vault long missing refused failed short NoEntry lacks = abs
 by_name P name names vault long missing refused failed short NotImage lacks = absurd lacks
 by_name P name names vault long missing refused failed short Receipt lacks = absurd lacks
 by_name P name names vault long missing refused failed short (TooFar entries) lacks = absurd lacks
+by_name P name names vault long missing refused failed short NoDigestHeld lacks = absurd lacks
 by_name P name names vault long missing refused failed short (Form line) lacks = absurd lacks
 
 -- ---- why there is no image
@@ -205,6 +208,7 @@ lacks_legal NoEntry J bytes spelled illegal = absurd illegal
 lacks_legal NotImage J bytes spelled illegal = absurd illegal
 lacks_legal Receipt J bytes spelled illegal = absurd illegal
 lacks_legal (TooFar entries) J bytes spelled illegal = absurd illegal
+lacks_legal NoDigestHeld J bytes spelled illegal = absurd illegal
 lacks_legal (Form line) J bytes spelled illegal = absurd illegal
 
 pub no_image : (result : Result Image Status) (J : JournalOf) (bytes : List ℕ) → IsSpelled J bytes → IfErr result (λ status. IsIllegal status J)
@@ -229,6 +233,7 @@ lacks_journal NoEntry bytes refused = absurd refused
 lacks_journal NotImage bytes refused = absurd refused
 lacks_journal Receipt bytes refused = absurd refused
 lacks_journal (TooFar entries) bytes refused = absurd refused
+lacks_journal NoDigestHeld bytes refused = absurd refused
 lacks_journal (Form line) bytes refused = absurd refused
 
 -- ---- why a name leads to none
@@ -249,6 +254,7 @@ lacks_name NoEntry name names vault lacks fault = absurd lacks
 lacks_name NotImage name names vault lacks fault = absurd lacks
 lacks_name Receipt name names vault lacks fault = absurd lacks
 lacks_name (TooFar entries) name names vault lacks fault = absurd lacks
+lacks_name NoDigestHeld name names vault lacks fault = absurd lacks
 lacks_name (Journal at) name names vault lacks fault = absurd lacks
 lacks_name (Form line) name names vault lacks fault = absurd lacks
 

@@ -9,7 +9,7 @@ use Rattle.format_image.specs.ImageBytes.{image_bytes}
 use Rattle.spec_verify.proofs.Judged.{of_two_spellings}
 use Rattle.cli_audit.specs.declared.files.File.{File}
 use Rattle.cli_audit.specs.declared.status.Status.{Status}
-use Rattle.cli_audit.specs.declared.status.Status.TheVariants.{Done, No, Words, Limit, SourceFault, SinkFault, VaultFault, Missing, Digests, Journal, Form, NotImage, Memory, NoEntry, Receipt, TooFar}
+use Rattle.cli_audit.specs.declared.status.Status.TheVariants.{Done, No, Words, Limit, SourceFault, SinkFault, VaultFault, Missing, Digests, Journal, Form, NotImage, Memory, NoEntry, Receipt, TooFar, NoDigestHeld}
 use Rattle.cli_audit.specs.Answer.{HasPut, HasWritten, EndsBy, Unfailed}
 use Rattle.cli_audit.specs.Calls.{Gave, AreGets, ArePuts, Behind, AreGetsAndPuts, AreWrites}
 use Rattle.cli_audit.specs.Files.{TellsHeld, FirstArePut}
@@ -43,6 +43,7 @@ by_bytes P bytes refused short (Form line) lacks = absurd lacks
 by_bytes P bytes refused short NoEntry lacks = absurd lacks
 by_bytes P bytes refused short Receipt lacks = absurd lacks
 by_bytes P bytes refused short (TooFar entries) lacks = absurd lacks
+by_bytes P bytes refused short NoDigestHeld lacks = absurd lacks
 
 -- a name under which no image stands
 by_name : (P : Status → Type 0) (name : List ℕ) (names : Option Names) (vault : Type 0) → P Limit → ((which : ℕ) → P (Missing which))
@@ -61,6 +62,7 @@ by_name P name names vault long missing refused failed short (Digests index) lac
 by_name P name names vault long missing refused failed short NoEntry lacks = absurd lacks
 by_name P name names vault long missing refused failed short Receipt lacks = absurd lacks
 by_name P name names vault long missing refused failed short (TooFar entries) lacks = absurd lacks
+by_name P name names vault long missing refused failed short NoDigestHeld lacks = absurd lacks
 by_name P name names vault long missing refused failed short (Journal at) lacks = absurd lacks
 by_name P name names vault long missing refused failed short (Form line) lacks = absurd lacks
 
@@ -81,6 +83,7 @@ lacks_name (Digests index) name names vault lacks fault = absurd lacks
 lacks_name NoEntry name names vault lacks fault = absurd lacks
 lacks_name Receipt name names vault lacks fault = absurd lacks
 lacks_name (TooFar entries) name names vault lacks fault = absurd lacks
+lacks_name NoDigestHeld name names vault lacks fault = absurd lacks
 lacks_name (Journal at) name names vault lacks fault = absurd lacks
 lacks_name (Form line) name names vault lacks fault = absurd lacks
 lacks_name NotImage name names vault lacks fault = absurd lacks

@@ -5,45 +5,22 @@ use Rattle.base_io.specs.Outside.{TellsTaken}
 use Rattle.base_io.specs.Store.{Names}
 use Rattle.sql_types.specs.declared.digest.HeldDigest.{HeldDigest}
 use Rattle.format_asof.specs.Texts.{texts_of}
-use Rattle.format_digest.specs.Reading.{IsRead}
 use Rattle.spec_verify.specs.declared.place.Verdict.{Verdict}
 use Rattle.spec_verify.specs.declared.place.Verdict.TheVariants.{Yes}
 use Rattle.spec_verify.specs.Bytes.{verdict_of}
 use Rattle.audit_answers.specs.declared.answering.Answers.{Answers}
 use Rattle.audit_answers.specs.declared.answering.Answers.TheVariants.{Refused, Written}
+use Rattle.audit_answers.specs.declared.coverage.Coverage.{Coverage}
 use Rattle.audit_answers.specs.Told.{AreAnswers, IsTooFar, IsWritten}
 use Rattle.cli_audit.specs.declared.status.Status.{Status}
 use Rattle.cli_audit.specs.declared.status.Status.TheVariants as status
 use Rattle.cli_audit.specs.Answer.{HasRead}
 use Rattle.cli_audit.specs.Calls.{AreReads}
-use Rattle.cli_audit.specs.Names.{IsInVault, LacksName, image_limit}
+use Rattle.cli_audit.specs.Subject.{AreHeld, AreSubject, FileIsRefused, HasSubject, LacksSubject, done_with}
 use Rattle.cli_audit.specs.Transfer.{input_limit, IsTooMuch, TellsPart}
-use Rattle.cli_audit.specs.Verify.{AreRefused, IsEvidence, LacksEvidence, verdict_text}
-
--- ---- what stands under the names
-
--- these bytes stand under the name of the image, and where a name of digests is given this file under that
-abbrev pub AreSubject : List ℕ → Option (List ℕ) → Names → List ℕ → Option (List ℕ) → Type 0
-AreSubject image None names bytes None = IsInVault (names image) image_limit bytes
-AreSubject image (Some digests) names bytes (Some file) = IsEvidence image digests names bytes file
-AreSubject image digests names bytes file = ⊥
-
--- such bytes and such a file stand there
-abbrev pub HasSubject : List ℕ → Option (List ℕ) → Option Names → Type 0
-HasSubject image digests names =
-    (bytes : List ℕ) × (file : Option (List ℕ)) × IfSome names (λ n. AreSubject image digests n bytes file)
-
--- why the names aren't read
-abbrev pub LacksSubject : Status → List ℕ → Option (List ℕ) → Option Names → Type 0
-LacksSubject ended image None names = LacksName ended 1 image_limit names image
-LacksSubject ended image (Some digests) names = LacksEvidence ended image digests names
+use Rattle.cli_audit.specs.Verify.{verdict_text}
 
 -- ---- what is told of bytes, a file and an input
-
--- the file has these digests; without a file there are none
-abbrev pub AreHeld : Option (List ℕ) → List HeldDigest → Type 0
-AreHeld None held = held ≡ []
-AreHeld (Some file) held = IsRead file (Ok held)
 
 -- the input has texts, and the file has digests, with which the image has such answers
 pub record AreToldSo (file : Option (List ℕ)) (input : List ℕ)
@@ -57,11 +34,6 @@ pub record AreToldSo (file : Option (List ℕ)) (input : List ℕ)
 -- the verdict, which isn't Yes, or what is written of the texts of the input over the image
 abbrev pub IsTold : (List ℕ → List ℕ) → ℕ → Answers → List ℕ → Option (List ℕ) → List ℕ → Type 0
 IsTold h n answers bytes file input = AreToldSo file input (λ held texts. AreAnswers h held bytes n texts answers)
-
--- the file is refused; without one nothing is
-abbrev pub FileIsRefused : Status → Option (List ℕ) → Type 0
-FileIsRefused ended None = ⊥
-FileIsRefused ended (Some file) = AreRefused ended file
 
 -- the input has texts, and the file is refused
 pub record RefusesFile (ended : Status) (file : Option (List ℕ)) (input : List ℕ) : Type 0 where
@@ -111,13 +83,21 @@ LacksAnswers status.Memory h image n digests input names source vault = Unit {0}
 LacksAnswers ended h image n digests input names source vault =
     StandAndCame image digests names input (LacksTold ended h n)
 
+-- the texts are answered over the image, and a call ends so where that is written
+abbrev pub IsAnsweredAs : Status → (List ℕ → List ℕ) → List ℕ → ℕ → Option (List ℕ) → Option (List ℕ) → Option Names
+    → Type 0
+IsAnsweredAs ended h image n digests input names =
+    (text : List ℕ) × (coverage : Coverage) × (done_with digests coverage ≡ ended) × StandAndCame image digests names input
+    (λ bytes file came. AreToldSo file came (λ held texts. IsWritten h held bytes n texts text coverage))
+
 -- Why a status comes. The causes exclude one another but for those of faults and want of memory, so each comes
 -- exactly where its cause stands, unless a fault or want of memory comes before it.
 abbrev pub AsOfCause : Status → (List ℕ → List ℕ) → List ℕ → ℕ → Option (List ℕ) → Option (List ℕ) → Option Names
     → Type 0 → Type 0 → Type 0 → Type 0
 AsOfCause status.Done h image n digests input names source vault sink =
-    (text : List ℕ) × StandAndCame image digests names input
-    (λ bytes file came. AreToldSo file came (λ held texts. IsWritten h held bytes n texts text))
+    IsAnsweredAs status.Done h image n digests input names
+AsOfCause status.NoDigestHeld h image n digests input names source vault sink =
+    IsAnsweredAs status.NoDigestHeld h image n digests input names
 AsOfCause status.No h image n digests input names source vault sink =
     (verdict : Verdict) × (verdict ≡ Yes → ⊥) × StandAndCame image digests names input
     (λ bytes file came. AreToldSo file came (λ held texts. verdict ≡ verdict_of h held bytes))
@@ -129,34 +109,48 @@ AsOfCause ended h image n digests input names source vault sink =
 
 abbrev pub answers_said : Answers → List ℕ
 answers_said (Refused verdict) = verdict_text verdict
-answers_said (Written text) = string_bytes text
+answers_said (Written text coverage) = string_bytes text
 
 -- what the sink took of it, and how the call ends then
-abbrev pub HasAnswered : Status → Answers → Option (List ℕ) → Option (List ℕ) → Type 0
-HasAnswered status.Done (Written text) old new = TellsTaken old new (string_bytes text)
-HasAnswered status.No (Refused verdict) old new = TellsTaken old new (verdict_text verdict)
-HasAnswered status.SinkFault answers old new = TellsPart old new (answers_said answers)
-HasAnswered _ answers old new = ⊥
+abbrev pub HasAnswered : Status → Option (List ℕ) → Answers → Option (List ℕ) → Option (List ℕ) → Type 0
+HasAnswered status.Done digests (Written text coverage) old new =
+    (done_with digests coverage ≡ status.Done) × TellsTaken old new (string_bytes text)
+HasAnswered status.NoDigestHeld digests (Written text coverage) old new =
+    (done_with digests coverage ≡ status.NoDigestHeld) × TellsTaken old new (string_bytes text)
+HasAnswered status.No digests (Refused verdict) old new = TellsTaken old new (verdict_text verdict)
+HasAnswered status.SinkFault digests answers old new = TellsPart old new (answers_said answers)
+HasAnswered _ digests answers old new = ⊥
 
 -- a verdict that is to be said isn't Yes
 abbrev pub AreNoYes : Answers → Type 0
 AreNoYes (Refused verdict) = verdict ≡ Yes → ⊥
-AreNoYes (Written text) = Unit {0}
+AreNoYes (Written text coverage) = Unit {0}
 
 -- how saying it ends: all was said, or the sink failed, or memory ran out before
-abbrev pub EndsSaying : Status → Answers → Type 0 → Option (List ℕ) → Option (List ℕ) → Type 0 → Type 0
-EndsSaying status.Done answers sink old new idle = HasAnswered status.Done answers old new
-EndsSaying status.No answers sink old new idle = HasAnswered status.No answers old new
-EndsSaying status.SinkFault answers sink old new idle = sink × HasAnswered status.SinkFault answers old new
-EndsSaying status.Memory answers sink old new idle = idle
-EndsSaying _ answers sink old new idle = ⊥
+abbrev pub EndsSaying : Status → Option (List ℕ) → Answers → Type 0 → Option (List ℕ) → Option (List ℕ) → Type 0
+    → Type 0
+EndsSaying status.Done digests answers sink old new idle = HasAnswered status.Done digests answers old new
+EndsSaying status.NoDigestHeld digests answers sink old new idle =
+    HasAnswered status.NoDigestHeld digests answers old new
+EndsSaying status.No digests answers sink old new idle = HasAnswered status.No digests answers old new
+EndsSaying status.SinkFault digests answers sink old new idle =
+    sink × HasAnswered status.SinkFault digests answers old new
+EndsSaying status.Memory digests answers sink old new idle = idle
+EndsSaying _ digests answers sink old new idle = ⊥
 
--- what is told of the image under its name and of the texts of the input was said
+-- what is noted of it: what the digests cover, where a name of digests is given
+abbrev pub answers_note : Option (List ℕ) → Answers → Option Coverage
+answers_note (Some digests) (Written text coverage) = Some coverage
+answers_note digests answers = None
+
+-- what is told of the image under its name and of the texts of the input was said, and this was noted of it
 pub record SaysAnswers (ended : Status) (h : List ℕ → List ℕ) (image : List ℕ) (n : ℕ) (digests : Option (List ℕ))
-    (input : Option (List ℕ)) (names : Option Names) (taken_old taken_new : Option (List ℕ)) : Type 0 where
+    (covers : Option Coverage) (input : Option (List ℕ)) (names : Option Names)
+    (taken_old taken_new : Option (List ℕ)) : Type 0 where
   pub answers : Answers
   pub told : StandAndCame image digests names input (IsTold h n answers)
-  pub said : HasAnswered ended answers taken_old taken_new
+  pub said : HasAnswered ended digests answers taken_old taken_new
+  pub noted : covers ≡ answers_note digests answers
 
 -- ---- what is called
 

@@ -7,7 +7,7 @@ use Rattle.base_io.specs.declared.vault.VaultErr.{VaultErr}
 use Rattle.base_io.specs.declared.vault.VaultErr.TheVariants as refused
 use Rattle.base_io.specs.History.{EndsAt}
 use Rattle.cli_audit.specs.declared.status.Status.{Status}
-use Rattle.cli_audit.specs.declared.status.Status.TheVariants.{Done, No, Words, Limit, SourceFault, SinkFault, VaultFault, Missing, Memory}
+use Rattle.cli_audit.specs.declared.status.Status.TheVariants.{Done, No, Words, Limit, SourceFault, SinkFault, VaultFault, Missing, Memory, NoDigestHeld}
 use Rattle.cli_audit.specs.declared.transfer.ReadErr.{ReadErr}
 use Rattle.cli_audit.specs.declared.transfer.ReadErr.TheVariants as reading
 
@@ -100,5 +100,6 @@ StopsWriting answers = EndsAt Moved failed answers ⊎ EndsAt Moved (Ok 0) answe
 abbrev pub AreWrites : Status → List (Result ℕ Failed) → Type 0
 AreWrites Done answers = All Moved answers
 AreWrites No answers = All Moved answers
+AreWrites NoDigestHeld answers = All Moved answers
 AreWrites SinkFault answers = StopsWriting answers
 AreWrites _ answers = answers ≡ []

@@ -1,5 +1,5 @@
 -- What `extract` reads, says and answers.
-use Rattle.std.specs.Prelude.{◌≡◌, ◌⊎◌, ℕ, List, [], ◌∷◌, ◌++◌, codes, Option, IfSome, Ok}
+use Rattle.std.specs.Prelude.{◌≡◌, ◌⊎◌, ℕ, List, [], ◌∷◌, ◌++◌, codes, Option, Some, None, IfSome, Ok}
 use Rattle.hex.specs.Hex.{encode_lower}
 use Rattle.base_io.specs.Outside.{TellsTaken}
 use Rattle.base_io.specs.Store.{Names}
@@ -11,6 +11,7 @@ use Rattle.spec_verify.specs.declared.place.Verdict.TheVariants.{Yes}
 use Rattle.spec_verify.specs.Bytes.{verdict_of}
 use Rattle.spec_verify.specs.Line.{verdict_line}
 use Rattle.audit_extract.specs.declared.found.ImageComparison.{ImageComparison}
+use Rattle.audit_extract.specs.declared.found.Collision.{Collision as TwoStrings}
 use Rattle.audit_extract.specs.declared.found.ImageComparison.TheVariants.{Same, Collision}
 use Rattle.audit_extract.specs.Each.{AgreeOnEach}
 use Rattle.audit_extract.specs.Finds.{Finds}
@@ -18,7 +19,10 @@ use Rattle.audit_extract.specs.Strings.{AreHashed, OfCollision}
 use Rattle.cli_audit.specs.declared.extract.Finding.{Finding}
 use Rattle.cli_audit.specs.declared.extract.Finding.TheVariants.{Honest, Suspect, Compared}
 use Rattle.cli_audit.specs.declared.status.Status.{Status}
-use Rattle.cli_audit.specs.declared.status.Status.TheVariants.{Done, No, Limit, SinkFault, VaultFault, Missing, Digests, Memory}
+use Rattle.cli_audit.specs.declared.status.Status.TheVariants.{Done, No, Limit, SinkFault, VaultFault, Missing, Digests, Memory, NoDigestHeld}
+use Rattle.audit_answers.specs.declared.coverage.Coverage.{Coverage}
+use Rattle.audit_answers.specs.Covers.{coverage_of}
+use Rattle.cli_audit.specs.Subject.{done_by}
 use Rattle.cli_audit.specs.Names.{IsInVault, LacksName, image_limit, digests_limit}
 use Rattle.cli_audit.specs.Transfer.{TellsPart}
 use Rattle.cli_audit.specs.Verify.{AreRefused}
@@ -61,7 +65,8 @@ abbrev pub IsFoundWith : (List ℕ → List ℕ) → List HeldDigest → List �
 IsFoundWith h held a b (Honest verdict) = (verdict ≡ Yes → ⊥) × (verdict ≡ verdict_of h held a)
 IsFoundWith h held a b (Suspect verdict) =
     (verdict_of h held a ≡ Yes) × ((verdict ≡ Yes → ⊥) × (verdict ≡ verdict_of h held b))
-IsFoundWith h held a b (Compared outcome) = AreCompared h held a b outcome
+IsFoundWith h held a b (Compared outcome coverage) =
+    (both : AreCompared h held a b outcome) × (coverage ≡ coverage_of both.suspect held)
 
 -- the file has some digests, and this is found of the bytes with them
 abbrev pub IsFoundOn : (List ℕ → List ℕ) → List ℕ → List ℕ → List ℕ → Finding → Type 0
@@ -98,21 +103,25 @@ LacksFinding _ honest suspect digests names vault = ⊥
 
 -- ---- what is said
 
--- Done exactly where all that the digests cover is the same
+-- Done, or NoDigestHeld without a digest, exactly where all that the digests cover is the same
 abbrev pub finding_status : Finding → Status
-finding_status (Compared Same) = Done
+finding_status (Compared Same coverage) = done_by coverage.newest
 finding_status _ = No
 
 -- bytes in lower-case hexadecimal digits, on a line
 abbrev pub hex_line : List ℕ → List ℕ
 hex_line bytes = encode_lower bytes ++ 10 ∷ []
 
+-- two strings of bytes with one hash
+abbrev pub collision_text : TwoStrings → List ℕ
+collision_text c = codes "Collision" ++ 10 ∷ hex_line c.first ++ hex_line c.second
+
 -- the lines that are written
 abbrev pub finding_text : Finding → List ℕ
 finding_text (Honest verdict) = codes "honest: " ++ verdict_line verdict ++ 10 ∷ []
 finding_text (Suspect verdict) = codes "suspect: " ++ verdict_line verdict ++ 10 ∷ []
-finding_text (Compared Same) = codes "Same" ++ 10 ∷ []
-finding_text (Compared (Collision c)) = codes "Collision" ++ 10 ∷ hex_line c.first ++ hex_line c.second
+finding_text (Compared Same coverage) = codes "Same" ++ 10 ∷ []
+finding_text (Compared (Collision c) coverage) = collision_text c
 
 -- something is found of what stands under the names, and a call ends so where it is said
 abbrev pub IsFoundAs : Status → (List ℕ → List ℕ) → List ℕ → List ℕ → List ℕ → Option Names → Type 0
@@ -124,6 +133,8 @@ IsFoundAs status h honest suspect digests names =
 abbrev pub ExtractCause : Status → (List ℕ → List ℕ) → List ℕ → List ℕ → List ℕ → Option Names
     → Type 0 → Type 0 → Type 0
 ExtractCause Done h honest suspect digests names vault sink = IsFoundAs Done h honest suspect digests names
+ExtractCause NoDigestHeld h honest suspect digests names vault sink =
+    IsFoundAs NoDigestHeld h honest suspect digests names
 ExtractCause No h honest suspect digests names vault sink = IsFoundAs No h honest suspect digests names
 ExtractCause SinkFault h honest suspect digests names vault sink = sink
 ExtractCause status h honest suspect digests names vault sink =
@@ -132,13 +143,21 @@ ExtractCause status h honest suspect digests names vault sink =
 -- what the sink took of it, and how the call ends then
 abbrev pub HasToldOf : Status → Finding → Option (List ℕ) → Option (List ℕ) → Type 0
 HasToldOf Done finding old new = (finding_status finding ≡ Done) × TellsTaken old new (finding_text finding)
+HasToldOf NoDigestHeld finding old new =
+    (finding_status finding ≡ NoDigestHeld) × TellsTaken old new (finding_text finding)
 HasToldOf No finding old new = (finding_status finding ≡ No) × TellsTaken old new (finding_text finding)
 HasToldOf SinkFault finding old new = TellsPart old new (finding_text finding)
 HasToldOf _ finding old new = ⊥
 
--- what is found of the images under two names was said
+-- what is noted of it: what the digests cover of the suspect image, where it is the same in both
+abbrev pub finding_note : Finding → Option Coverage
+finding_note (Compared Same coverage) = Some coverage
+finding_note finding = None
+
+-- what is found of the images under two names was said, and this was noted of it
 pub record Extracts (status : Status) (h : List ℕ → List ℕ) (honest suspect digests : List ℕ)
-    (names : Option Names) (taken_old taken_new : Option (List ℕ)) : Type 0 where
+    (covers : Option Coverage) (names : Option Names) (taken_old taken_new : Option (List ℕ)) : Type 0 where
   pub finding : Finding
   pub is_found : IsFound h honest suspect digests names finding
   pub told : HasToldOf status finding taken_old taken_new
+  pub noted : covers ≡ finding_note finding

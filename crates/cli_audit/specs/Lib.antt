@@ -10,8 +10,13 @@ pub mod Past
 pub mod Receipt
 pub mod Replay
 pub mod Status
+pub mod Subject
 pub mod Tell
 pub mod Transfer
 pub mod Upgrade
+pub mod Verified
 pub mod Verify
+pub use Rattle.audit_answers.specs.Covers
+pub use Rattle.audit_answers.specs.declared.coverage.Coverage
+pub use Rattle.audit_answers.specs.declared.coverage.Judgement
 pub use Rattle.audit_any_receipt.specs.declared.make.Wanted

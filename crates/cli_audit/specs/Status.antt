@@ -2,7 +2,7 @@
 use Rattle.std.specs.Prelude.{ℕ, List, [], ◌++◌, codes, Some}
 use Rattle.std.specs.Fmt.{decimal}
 use Rattle.cli_audit.specs.declared.status.Status.{Status}
-use Rattle.cli_audit.specs.declared.status.Status.TheVariants.{Done, No, Words, Limit, SourceFault, SinkFault, VaultFault, Missing, Digests, Journal, Form, NotImage, Memory, NoEntry, Receipt, TooFar}
+use Rattle.cli_audit.specs.declared.status.Status.TheVariants.{Done, No, Words, Limit, SourceFault, SinkFault, VaultFault, Missing, Digests, Journal, Form, NotImage, Memory, NoEntry, Receipt, TooFar, NoDigestHeld}
 
 abbrev pub code_of : Status → ℕ
 code_of Done = 0
@@ -21,6 +21,7 @@ code_of Memory = 12
 code_of NoEntry = 14
 code_of Receipt = 15
 code_of (TooFar entries) = 16
+code_of NoDigestHeld = 17
 
 abbrev pub text_of : Status → List ℕ
 text_of Done = codes ""
@@ -39,6 +40,7 @@ text_of Memory = codes "out of memory"
 text_of NoEntry = codes "no such entry"
 text_of Receipt = codes "bad receipt"
 text_of (TooFar entries) = codes "not so many transactions"
+text_of NoDigestHeld = codes "no digest is held"
 
 -- the place that a status has, as it stands behind its text
 abbrev pub place_of : Status → List ℕ

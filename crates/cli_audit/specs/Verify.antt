@@ -1,4 +1,4 @@
--- What `verify` reads, says and answers.
+-- The verdict on what stands under the names of an image and of digests, and the line that is said of it.
 use Rattle.std.specs.Prelude.{◌≡◌, ◌⊎◌, ℕ, List, [], ◌∷◌, ◌++◌, Option, Some, None, IfSome, Ok, Err}
 use Rattle.base_io.specs.Outside.{TellsTaken}
 use Rattle.base_io.specs.Store.{Names}
@@ -10,7 +10,7 @@ use Rattle.spec_verify.specs.declared.place.Verdict.TheVariants.{Yes}
 use Rattle.spec_verify.specs.Bytes.{verdict_of}
 use Rattle.spec_verify.specs.Line.{verdict_line}
 use Rattle.cli_audit.specs.declared.status.Status.{Status}
-use Rattle.cli_audit.specs.declared.status.Status.TheVariants.{Done, No, Limit, SinkFault, VaultFault, Missing, Digests, Memory}
+use Rattle.cli_audit.specs.declared.status.Status.TheVariants.{Done, No, Limit, SinkFault, VaultFault, Missing, Digests, Memory, NoDigestHeld}
 use Rattle.cli_audit.specs.Names.{IsInVault, LacksName, image_limit, digests_limit}
 use Rattle.cli_audit.specs.Transfer.{TellsPart}
 
@@ -63,17 +63,6 @@ LacksVerdict VaultFault image digests names vault = vault
 LacksVerdict Memory image digests names vault = Unit {0}
 LacksVerdict _ image digests names vault = ⊥
 
--- Why a status comes. The causes exclude one another but for those of faults and want of memory, so each
--- comes
--- exactly where its cause stands, unless a fault or want of memory comes before it.
-abbrev pub VerifyCause : Status → (List ℕ → List ℕ) → List ℕ → List ℕ → Option Names
-    → Type 0 → Type 0 → Type 0
-VerifyCause Done h image digests names vault sink = IsJudged h image digests names Yes
-VerifyCause No h image digests names vault sink =
-    (verdict : Verdict) × (verdict ≡ Yes → ⊥) × IsJudged h image digests names verdict
-VerifyCause SinkFault h image digests names vault sink = sink
-VerifyCause status h image digests names vault sink = LacksVerdict status image digests names vault
-
 -- the line of a verdict
 abbrev pub verdict_text : Verdict → List ℕ
 verdict_text verdict = verdict_line verdict ++ 10 ∷ []
@@ -85,16 +74,10 @@ HasSaid No verdict old new = (verdict ≡ Yes → ⊥) × TellsTaken old new (ve
 HasSaid SinkFault verdict old new = TellsPart old new (verdict_text verdict)
 HasSaid _ verdict old new = ⊥
 
--- the verdict on what stands under the two names was said
-pub record SaysVerdict (status : Status) (h : List ℕ → List ℕ) (image digests : List ℕ)
-    (names : Option Names) (taken_old taken_new : Option (List ℕ)) : Type 0 where
-  pub verdict : Verdict
-  pub judged : IsJudged h image digests names verdict
-  pub said : HasSaid status verdict taken_old taken_new
-
 -- by the status, a line was begun, or the sink wasn't called
 abbrev pub SaidOrIdle : Status → Type 0 → Type 0 → Type 0
 SaidOrIdle Done said idle = said
 SaidOrIdle No said idle = said
+SaidOrIdle NoDigestHeld said idle = said
 SaidOrIdle SinkFault said idle = said
 SaidOrIdle _ said idle = idle

@@ -1,107 +1,29 @@
 //! SELECTs over an image as it was behind its first transactions.
 
-ghost use Rattle.std.specs.Prelude.{⊤, ◌≡◌, ◌≤◌, ◌⊎◌, [], length, map, option_map, Ok, Some, IfErr, IfOk, IfSome};
+ghost use Rattle.std.specs.Prelude.{⊤, ◌≡◌, ◌≤◌, ◌⊎◌, [], length, map, Ok, Some, IfErr, IfOk, IfSome};
 ghost use Rattle.std.specs.Option.{option_copied};
 ghost use Rattle.base_io.specs.Count.{Rises};
 ghost use Rattle.base_io.specs.History.{EndsAt, Since};
 ghost use Rattle.cli_audit.specs.Answer.{Unfailed};
-ghost use Rattle.cli_audit.specs.AsOf.{AreHeld, AreSubject, FileIsRefused, IsTold, LacksSubject, LacksTexts, LacksTold};
+ghost use Rattle.cli_audit.specs.AsOf.{IsTold, LacksTexts, LacksTold};
 ghost use Rattle.cli_audit.specs.AsOf.{AreReadsBehind, AsOfCause, HasReadBehind, SaysAnswers};
-ghost use Rattle.cli_audit.specs.AsOf.{AreNoYes, EndsSaying, LacksAnswers, StandAndCame};
+ghost use Rattle.cli_audit.specs.AsOf.{AreNoYes, EndsSaying, LacksAnswers, StandAndCame, answers_note};
 ghost use Rattle.format_asof.specs.Texts.{texts_of};
-ghost use Rattle.cli_audit.specs.Calls.{AreGets, AreGetsBefore, AreWrites, Gave, Moved, name_count};
+ghost use Rattle.cli_audit.specs.Calls.{AreGetsBefore, AreWrites, Gave, Moved, name_count};
 ghost use Rattle.cli_audit.specs.AsOf.{IsUnread};
-ghost use Rattle.cli_audit.specs.Names.{IsInVault, LacksName, image_limit};
 ghost use Rattle.cli_audit.specs.Transfer.{input_limit};
 ghost use Rattle.cli_audit.specs.Verify.{SaidOrIdle};
 
 use crate::Status;
-use crate::names::{IMAGE_LIMIT, read_name};
+use crate::ended::Ended;
 use crate::receipt::refuse;
+use crate::subject::{file_in, held_in, lacks_digest, read_subject};
 use crate::transfer::{ReadErr, read_input, write_all};
-use crate::verify::{read_evidence, read_held};
-use audit_answers::{Answers, AnswersErr, answer_texts};
+use audit_answers::{Answers, AnswersErr, Coverage, answer_texts};
 use base_io::{Failed, Sink, Source, Vault};
 use base_merkle::Hash32;
-use base_types::Items;
 use format_asof::{InputErr, read_texts};
-use sql_types::HeldDigest;
 use std::alloc::Global;
-
-/// What stands under the names: an image, and digests where their name is given.
-#[derive(Drop)]
-struct Subject {
-    image: Vec<u8>,
-    digests: Option<Vec<u8>>,
-}
-
-/// The file of the digests, if there is one.
-fn file_in(digests: &Option<Vec<u8>>) -> Option<&[u8]>
-    ensures { option_copied result ≡ option_map (λ v. v.items) digests.now }
-{
-    match digests {
-        Some(file) => Some(file.as_slice()),
-        None => None,
-    }
-}
-
-/// Reads what stands under the name of the image, where it is the only one.
-fn read_alone<V: Vault>(vault: &mut V, image: &str) -> Result<Vec<u8>, Status>
-    ensures is { IfOk result (λ bytes. IfSome (V.names vault.old)
-        (λ names. IsInVault (names image.now) image_limit bytes.items)) }
-    ensures lacks { IfErr result (λ status. LacksName status 1 image_limit (V.names vault.old) image.now) }
-    ensures same { V.names vault.new ≡ V.names vault.old }
-    ensures gave { IfOk result (λ bytes. Since (V.history vault.old) (V.history vault.new) (Gave 1)) }
-    ensures gets { IfErr result
-        (λ status. Since (V.history vault.old) (V.history vault.new) (AreGets 1 status)) }
-    ensures calm { IfOk result (λ bytes. V.faults vault.new ≡ V.faults vault.old) }
-    ensures unfailed { IfErr result
-        (λ status. Unfailed status ⊤ (V.faults vault.new ≡ V.faults vault.old) ⊤) }
-    ensures cause { IfErr result
-        (λ status. status ≡ Status.VaultFault → Rises (V.faults vault.old) (V.faults vault.new)) }
-{
-    let bytes = read_name(vault, image, 1, IMAGE_LIMIT)?;
-    Ok(bytes)
-}
-
-/// Reads what stands under the names, the image's first.
-fn read_subject<V: Vault>(
-    vault: &mut V,
-    image: &str,
-    digests: Option<&str>,
-) -> Result<Subject, Status>
-    ensures are { IfOk result (λ read. IfSome (V.names vault.old) (λ names. AreSubject image.now
-        (option_copied digests.entry) names read.image.items (option_map (λ v. v.items) read.digests))) }
-    ensures lacks { IfErr result
-        (λ status. LacksSubject status image.now (option_copied digests.entry) (V.names vault.old)) }
-    ensures same { V.names vault.new ≡ V.names vault.old }
-    ensures gave { IfOk result (λ read. Since (V.history vault.old) (V.history vault.new)
-        (Gave (name_count (option_copied digests.entry)))) }
-    ensures gets { IfErr result (λ status. Since (V.history vault.old) (V.history vault.new)
-        (AreGets (name_count (option_copied digests.entry)) status)) }
-    ensures calm { IfOk result (λ read. V.faults vault.new ≡ V.faults vault.old) }
-    ensures unfailed { IfErr result
-        (λ status. Unfailed status ⊤ (V.faults vault.new ≡ V.faults vault.old) ⊤) }
-    ensures cause { IfErr result
-        (λ status. status ≡ Status.VaultFault → Rises (V.faults vault.old) (V.faults vault.new)) }
-{
-    match digests {
-        Some(digests) => {
-            let evidence = read_evidence(vault, image, digests)?;
-            Ok(Subject {
-                image: evidence.image,
-                digests: Some(evidence.digests),
-            })
-        }
-        None => {
-            let image = read_alone(vault, image)?;
-            Ok(Subject {
-                image,
-                digests: None,
-            })
-        }
-    }
-}
 
 /// Reads the whole input. `Limit` where it has more than `INPUT_LIMIT` bytes, of which one behind these is taken.
 pub fn read_whole<S: Source>(alloc: Global, source: &mut S) -> Result<Vec<u8>, Status>
@@ -137,17 +59,6 @@ fn texts_in<'a>(alloc: Global, input: &'a [u8]) -> Result<Vec<&'a str>, Status>
         Ok(texts) => Ok(texts),
         Err(InputErr::Form { line }) => Err(Status::Form { line }),
         Err(InputErr::Memory) => Err(Status::Memory),
-    }
-}
-
-/// The digests of the file; without one there are none.
-fn held_in(alloc: Global, file: Option<&[u8]>) -> Result<Items<HeldDigest>, Status>
-    ensures held { IfOk result (AreHeld (option_copied file.entry)) }
-    ensures refused { IfErr result (λ status. FileIsRefused status (option_copied file.entry)) }
-{
-    match file {
-        Some(file) => read_held(alloc, file),
-        None => Ok(Items::new(alloc)),
     }
 }
 
@@ -221,9 +132,9 @@ fn tell_names<H: Hash32, S: Source, V: Vault>(
 }
 
 /// Says what is told.
-fn say<K: Sink>(alloc: Global, answers: &Answers, sink: &mut K) -> Status
+fn say<K: Sink>(alloc: Global, digests: Option<&str>, answers: &Answers, sink: &mut K) -> Status
     requires { AreNoYes answers.now }
-    ensures ends { EndsSaying result answers.now
+    ensures ends { EndsSaying result (option_copied digests.entry) answers.now
         (Rises (K.faults sink.old) (K.faults sink.new) ⊎ Rises (K.stalls sink.old) (K.stalls sink.new))
         (K.taken sink.old) (K.taken sink.new) (sink.new ≡ sink.old) }
     ensures writes { Since (K.history sink.old) (K.history sink.new) (AreWrites result) }
@@ -232,9 +143,28 @@ fn say<K: Sink>(alloc: Global, answers: &Answers, sink: &mut K) -> Status
 {
     match answers {
         Answers::Refused(verdict) => refuse(alloc, verdict, sink),
-        Answers::Written(text) => match write_all(sink, text.as_bytes()) {
-            Ok(()) => Status::Done,
-            Err(Failed) => Status::SinkFault,
+        Answers::Written { text, coverage } => {
+            if let Err(Failed) = write_all(sink, text.as_bytes()) {
+                return Status::SinkFault;
+            }
+            if lacks_digest(digests, *coverage) {
+                Status::NoDigestHeld
+            } else {
+                Status::Done
+            }
+        }
+    }
+}
+
+/// What is noted beside the answers: what the digests cover, where their name is given.
+fn note_of(digests: Option<&str>, answers: &Answers) -> Option<Coverage>
+    ensures { result ≡ answers_note (option_copied digests.entry) answers.now }
+{
+    match answers {
+        Answers::Refused(_) => None,
+        Answers::Written { coverage, .. } => match digests {
+            Some(_) => Some(*coverage),
+            None => None,
         },
     }
 }
@@ -251,26 +181,33 @@ pub fn answer_as_of<H: Hash32, S: Source, K: Sink, V: Vault>(
     source: &mut S,
     sink: &mut K,
     vault: &mut V,
-) -> Status
-    ensures cause { AsOfCause result (H.digest h) image.now n (option_copied digests.entry) (S.left source.old)
+) -> Ended
+    ensures cause { AsOfCause result.status (H.digest h) image.now n (option_copied digests.entry) (S.left source.old)
         (V.names vault.old) (Rises (S.faults source.old) (S.faults source.new))
         (Rises (V.faults vault.old) (V.faults vault.new))
         (Rises (K.faults sink.old) (K.faults sink.new) ⊎ Rises (K.stalls sink.old) (K.stalls sink.new)) }
-    ensures answered { SaidOrIdle result
-        (SaysAnswers result (H.digest h) image.now n (option_copied digests.entry) (S.left source.old)
+    ensures answered { SaidOrIdle result.status
+        (SaysAnswers result.status (H.digest h) image.now n (option_copied digests.entry) result.covers (S.left source.old)
         (V.names vault.old) (K.taken sink.old) (K.taken sink.new)) (sink.new ≡ sink.old) }
     ensures same { V.names vault.new ≡ V.names vault.old }
-    ensures read { IfSome (S.left source.old) (λ input. HasReadBehind result input (S.left source.new)) }
-    ensures reads { Since (S.history source.old) (S.history source.new) (AreReadsBehind result) }
+    ensures read { IfSome (S.left source.old) (λ input. HasReadBehind result.status input (S.left source.new)) }
+    ensures reads { Since (S.history source.old) (S.history source.new) (AreReadsBehind result.status) }
     ensures gets { Since (V.history vault.old) (V.history vault.new)
-        (AreGetsBefore (name_count (option_copied digests.entry)) result) }
-    ensures writes { Since (K.history sink.old) (K.history sink.new) (AreWrites result) }
-    ensures unfailed { Unfailed result (S.faults source.new ≡ S.faults source.old)
+        (AreGetsBefore (name_count (option_copied digests.entry)) result.status) }
+    ensures writes { Since (K.history sink.old) (K.history sink.new) (AreWrites result.status) }
+    ensures unfailed { Unfailed result.status (S.faults source.new ≡ S.faults source.old)
         (V.faults vault.new ≡ V.faults vault.old)
         ((K.faults sink.new ≡ K.faults sink.old) × (K.stalls sink.new ≡ K.stalls sink.old)) }
 {
     match tell_names(alloc, h, image, n, digests, source, vault) {
-        Ok(answers) => say(alloc, &answers, sink),
-        Err(status) => status,
+        Ok(answers) => {
+            let status = say(alloc, digests, &answers, sink);
+            let covers = note_of(digests, &answers);
+            Ended { status, covers }
+        }
+        Err(status) => Ended {
+            status,
+            covers: None,
+        },
     }
 }

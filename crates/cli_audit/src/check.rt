@@ -120,13 +120,20 @@ fn judge_names<H: Hash32, V: Vault>(
     judge(alloc, h, &claim.receipt, &claim.digests)
 }
 
+/// The line of a chain that joins all digests.
+fn joined_text(alloc: Global, from: u64, to: u64) -> Result<String, AllocError>
+    ensures { IfOk result (λ text. string_bytes text ≡ answer_text (Answer.Joined from to)) }
+{
+    format!(in alloc; "Yes {from} {to}\n")
+}
+
 /// The line that is written of an answer.
 fn text_of(alloc: Global, answer: Answer) -> Result<String, AllocError>
     ensures { IfOk result (λ text. string_bytes text ≡ answer_text answer) }
 {
     match answer {
         Answer::Yes => format!(in alloc; "Yes\n"),
-        Answer::Joined { from, to } => format!(in alloc; "Yes {from} {to}\n"),
+        Answer::Joined { from, to } => joined_text(alloc, from, to),
         Answer::NoJoin { block } => format!(in alloc; "No join of block {block}\n"),
         Answer::NoDigest { block } => format!(in alloc; "No digest of block {block}\n"),
         Answer::NoReceipt => format!(in alloc; "No receipt\n"),

@@ -1,19 +1,22 @@
 //! Two images that are held against the same digests.
 
-ghost use Rattle.std.specs.Prelude.{⊤, ◌≡◌, ◌⊎◌, string_bytes, true, false, IfOk, IfErr, IfSome};
+ghost use Rattle.std.specs.Prelude.{⊤, ◌≡◌, ◌⊎◌, string_bytes, None, IfOk, IfErr, IfSome};
 ghost use Rattle.base_io.specs.Count.{Rises};
 ghost use Rattle.base_io.specs.History.{Since};
 ghost use Rattle.cli_audit.specs.Answer.{Unfailed};
 ghost use Rattle.cli_audit.specs.Calls.{AreGets, Gave, AreWrites};
 ghost use Rattle.cli_audit.specs.Extract.{AreExhibits, LacksExhibits, IsFoundWith, IsFoundOn, IsFound};
-ghost use Rattle.cli_audit.specs.Extract.{LacksFinding, ExtractCause, Extracts, finding_status, finding_text};
+ghost use Rattle.cli_audit.specs.Extract.{LacksFinding, ExtractCause, Extracts, collision_text, finding_note, finding_status, finding_text};
+ghost use Rattle.cli_audit.specs.Subject.{done_by};
 ghost use Rattle.cli_audit.specs.Verify.{AreRefused, SaidOrIdle};
 
 use crate::Status;
+use crate::ended::Ended;
 use crate::names::{DIGESTS_LIMIT, IMAGE_LIMIT, read_name};
+use crate::subject::lacks_digest;
 use crate::transfer::write_all;
 use crate::verify::read_held;
-use audit_answers::accepted;
+use audit_answers::{Coverage, accepted, coverage_of};
 use audit_extract::{Collision, ImageComparison, extract_each};
 use base_io::{Failed, Sink, Vault};
 use base_merkle::Hash32;
@@ -29,8 +32,8 @@ pub(crate) enum Finding {
     Honest(Verdict),
     /// It is, and the suspect one isn't, with this verdict.
     Suspect(Verdict),
-    /// Both are accepted, and this is what they are to each other.
-    Compared(ImageComparison),
+    /// Both are accepted, this is what they are to each other, and this the digests cover of the suspect one.
+    Compared(ImageComparison, Coverage),
 }
 
 /// What stands under the three names.
@@ -100,9 +103,10 @@ fn compare<H: Hash32>(
         }
     };
     let outcome = extract_each(alloc, h, &honest_image, &suspect_image, digests);
+    let coverage = coverage_of(&suspect_image, digests);
     drop(suspect_image);
     drop(honest_image);
-    Ok(Finding::Compared(outcome?))
+    Ok(Finding::Compared(outcome?, coverage))
 }
 
 /// What is found of these bytes, with the digests of this file.
@@ -151,8 +155,7 @@ fn examine_names<H: Hash32, V: Vault>(
 
 /// Two byte strings with one hash, each in hexadecimal digits on a line of its own.
 fn collision_text(alloc: Global, collision: &Collision) -> Result<String, AllocError>
-    ensures { IfOk result (λ text. string_bytes text
-        ≡ finding_text (Finding.Compared (ImageComparison.Collision collision.now))) }
+    ensures { IfOk result (λ text. string_bytes text ≡ collision_text collision.now) }
 {
     let first = hex::encode(alloc, collision.first.bytes())?;
     let second = hex::encode(alloc, collision.second.bytes())?;
@@ -167,23 +170,24 @@ fn text_of(alloc: Global, finding: &Finding) -> Result<String, AllocError>
     match finding {
         Finding::Honest(verdict) => format!(in alloc; "honest: {verdict}\n"),
         Finding::Suspect(verdict) => format!(in alloc; "suspect: {verdict}\n"),
-        Finding::Compared(ImageComparison::Same) => format!(in alloc; "Same\n"),
-        Finding::Compared(ImageComparison::Collision(collision)) => collision_text(
+        Finding::Compared(ImageComparison::Same, _) => format!(in alloc; "Same\n"),
+        Finding::Compared(ImageComparison::Collision(collision), _) => collision_text(
             alloc, collision,
         ),
     }
 }
 
-/// Whether both images are accepted and all that the digests cover is the same in both.
-fn is_same(finding: &Finding) -> bool
-    ensures same { result ≡ true → finding_status finding.now ≡ Status.Done }
-    ensures other { result ≡ false → finding_status finding.now ≡ Status.No }
+/// What the digests cover, where both images are accepted and it is the same in both.
+fn same_coverage(finding: &Finding) -> Option<Coverage>
+    ensures same { IfSome result (λ coverage. finding_status finding.now ≡ done_by coverage.newest) }
+    ensures other { result ≡ None → finding_status finding.now ≡ Status.No }
+    ensures note { result ≡ finding_note finding.now }
 {
     match finding {
-        Finding::Compared(ImageComparison::Same) => true,
-        Finding::Compared(ImageComparison::Collision(_)) => false,
-        Finding::Honest(_) => false,
-        Finding::Suspect(_) => false,
+        Finding::Compared(ImageComparison::Same, coverage) => Some(*coverage),
+        Finding::Compared(ImageComparison::Collision(_), _) => None,
+        Finding::Honest(_) => None,
+        Finding::Suspect(_) => None,
     }
 }
 
@@ -196,32 +200,58 @@ pub fn compare_images<H: Hash32, K: Sink, V: Vault>(
     digests: &str,
     sink: &mut K,
     vault: &mut V,
-) -> Status
-    ensures cause { ExtractCause result (H.digest h) honest.now suspect.now digests.now (V.names vault.old)
+) -> Ended
+    ensures cause { ExtractCause result.status (H.digest h) honest.now suspect.now digests.now (V.names vault.old)
         (Rises (V.faults vault.old) (V.faults vault.new))
         (Rises (K.faults sink.old) (K.faults sink.new) ⊎ Rises (K.stalls sink.old) (K.stalls sink.new)) }
-    ensures extracts { SaidOrIdle result
-        (Extracts result (H.digest h) honest.now suspect.now digests.now
+    ensures extracts { SaidOrIdle result.status
+        (Extracts result.status (H.digest h) honest.now suspect.now digests.now result.covers
         (V.names vault.old) (K.taken sink.old) (K.taken sink.new)) (sink.new ≡ sink.old) }
     ensures same { V.names vault.new ≡ V.names vault.old }
-    ensures gets { Since (V.history vault.old) (V.history vault.new) (AreGets 3 result) }
-    ensures writes { Since (K.history sink.old) (K.history sink.new) (AreWrites result) }
-    ensures unfailed { Unfailed result ⊤ (V.faults vault.new ≡ V.faults vault.old)
+    ensures gets { Since (V.history vault.old) (V.history vault.new) (AreGets 3 result.status) }
+    ensures writes { Since (K.history sink.old) (K.history sink.new) (AreWrites result.status) }
+    ensures unfailed { Unfailed result.status ⊤ (V.faults vault.new ≡ V.faults vault.old)
         ((K.faults sink.new ≡ K.faults sink.old) × (K.stalls sink.new ≡ K.stalls sink.old)) }
 {
     let finding = match examine_names(alloc, h, honest, suspect, digests, vault) {
         Ok(finding) => finding,
-        Err(status) => return status,
+        Err(status) => {
+            return Ended {
+                status,
+                covers: None,
+            };
+        }
     };
     let Ok(text) = text_of(alloc, &finding) else {
-        return Status::Memory;
+        return Ended {
+            status: Status::Memory,
+            covers: None,
+        };
     };
+    let covers = same_coverage(&finding);
     if let Err(Failed) = write_all(sink, text.as_bytes()) {
-        return Status::SinkFault;
+        return Ended {
+            status: Status::SinkFault,
+            covers,
+        };
     }
-    if is_same(&finding) {
-        Status::Done
-    } else {
-        Status::No
+    match covers {
+        Some(coverage) => {
+            if lacks_digest(Some(digests), coverage) {
+                Ended {
+                    status: Status::NoDigestHeld,
+                    covers,
+                }
+            } else {
+                Ended {
+                    status: Status::Done,
+                    covers,
+                }
+            }
+        }
+        None => Ended {
+            status: Status::No,
+            covers,
+        },
     }
 }

@@ -4,6 +4,7 @@
 
 mod asof;
 mod check;
+mod ended;
 mod extract;
 mod files;
 mod names;
@@ -11,15 +12,18 @@ mod past;
 mod receipt;
 mod replay;
 mod status;
+mod subject;
 mod tell;
 mod transfer;
 mod upgrade;
 mod verify;
 
 pub use asof::{answer_as_of, read_whole};
+pub use audit_answers::{Coverage, coverage_text};
 pub use audit_any_receipt::Wanted;
 pub use audit_replay::Past;
 pub use check::check_receipt;
+pub use ended::Ended;
 pub use extract::compare_images;
 pub use files::{File, file_of, image_file, put_and_write};
 pub use past::read_past;

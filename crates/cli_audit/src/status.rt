@@ -48,6 +48,9 @@ pub enum Status {
     Receipt,
     /// The image has only so many transactions.
     TooFar { entries: u64 },
+    /// The command did its work, and `verify` said Yes, but over a list without a digest: it shows nothing of what was
+    /// there before.
+    NoDigestHeld,
 }
 
 impl Status {
@@ -72,6 +75,7 @@ impl Status {
             Status::NoEntry => 14,
             Status::Receipt => 15,
             Status::TooFar { .. } => 16,
+            Status::NoDigestHeld => 17,
         }
     }
 
@@ -96,6 +100,7 @@ impl Status {
             Status::NoEntry => "no such entry",
             Status::Receipt => "bad receipt",
             Status::TooFar { .. } => "not so many transactions",
+            Status::NoDigestHeld => "no digest is held",
         }
     }
 }

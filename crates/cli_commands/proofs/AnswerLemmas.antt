@@ -4,7 +4,7 @@ use Rattle.std.proofs.Math.Seq.{drop-length}
 use Rattle.std.proofs.lemmas.List.{drop_all}
 use Rattle.std.specs.declared.alloc.Global.{Global}
 use Rattle.cli_audit.specs.declared.status.Status.{Status}
-use Rattle.cli_audit.specs.declared.status.Status.TheVariants.{Done, No, Words, Limit, SourceFault, SinkFault, VaultFault, Missing, Digests, Journal, Form, Memory, NotImage, NoEntry, Receipt, TooFar}
+use Rattle.cli_audit.specs.declared.status.Status.TheVariants.{Done, No, Words, Limit, SourceFault, SinkFault, VaultFault, Missing, Digests, Journal, Form, Memory, NotImage, NoEntry, Receipt, TooFar, NoDigestHeld}
 use Rattle.cli_commands.specs.Input.{InputForm, IsInput}
 use Rattle.cli_audit.specs.Transfer.{input_limit, IsInputRead}
 use Rattle.cli_audit.specs.Answer.{HasRead, EndsBy}
@@ -28,6 +28,7 @@ module _ {A : Type 0} (form : InputForm A) where
   cause_came NotImage source vault sink input rest v bytes came is cause = absurd cause
   cause_came Receipt source vault sink input rest v bytes came is cause = absurd cause
   cause_came (TooFar entries) source vault sink input rest v bytes came is cause = absurd cause
+  cause_came NoDigestHeld source vault sink input rest v bytes came is cause = absurd cause
   cause_came (Journal at) source vault sink input rest v bytes came is cause = absurd cause
   cause_came Limit source vault sink input rest v bytes came is cause = bytes_came input rest v bytes _ came is cause
   cause_came SourceFault source vault sink input rest v bytes came is cause = absurd cause
@@ -48,6 +49,7 @@ module _ {A : Type 0} (form : InputForm A) where
   read_whole NotImage bytes vault sink input rest v cause came = absurd cause
   read_whole Receipt bytes vault sink input rest v cause came = absurd cause
   read_whole (TooFar entries) bytes vault sink input rest v cause came = absurd cause
+  read_whole NoDigestHeld bytes vault sink input rest v cause came = absurd cause
   read_whole (Journal at) bytes vault sink input rest v cause came = absurd cause
   read_whole Limit bytes vault sink input rest v cause came = came.2 ∙ ap Some (sym (drop_all (input_limit + 1) input (omega (arith, came.1))))
   read_whole SourceFault bytes vault sink input rest v cause came = absurd cause
@@ -75,6 +77,7 @@ ran_by NoEntry vault sink ran idle ends r = absurd ends
 ran_by NotImage vault sink ran idle ends r = absurd ends
 ran_by Receipt vault sink ran idle ends r = absurd ends
 ran_by (TooFar entries) vault sink ran idle ends r = absurd ends
+ran_by NoDigestHeld vault sink ran idle ends r = absurd ends
 ran_by (Journal at) vault sink ran idle ends r = absurd ends
 ran_by Limit vault sink ran idle ends r = absurd ends
 ran_by SourceFault vault sink ran idle ends r = absurd ends
@@ -95,6 +98,7 @@ ran_within NoEntry ran ran' idle f r = r
 ran_within NotImage ran ran' idle f r = r
 ran_within Receipt ran ran' idle f r = r
 ran_within (TooFar entries) ran ran' idle f r = r
+ran_within NoDigestHeld ran ran' idle f r = r
 ran_within (Journal at) ran ran' idle f r = r
 ran_within Limit ran ran' idle f r = r
 ran_within SourceFault ran ran' idle f r = r
@@ -115,6 +119,7 @@ cause_by form NoEntry bytes vault sink said ends = absurd ends
 cause_by form NotImage bytes vault sink said ends = absurd ends
 cause_by form Receipt bytes vault sink said ends = absurd ends
 cause_by form (TooFar entries) bytes vault sink said ends = absurd ends
+cause_by form NoDigestHeld bytes vault sink said ends = absurd ends
 cause_by form (Journal at) bytes vault sink said ends = absurd ends
 cause_by form Limit bytes vault sink said ends = absurd ends
 cause_by form SourceFault bytes vault sink said ends = absurd ends

@@ -4,7 +4,7 @@ use Rattle.std.specs.declared.alloc.Global.{Global}
 use Rattle.base_io.specs.declared.failed.Failed.{Failed}
 use Rattle.base_io.specs.History.{Since, EndsAt}
 use Rattle.cli_audit.specs.declared.status.Status.{Status}
-use Rattle.cli_audit.specs.declared.status.Status.TheVariants.{Done, No, Words, Limit, SourceFault, SinkFault, VaultFault, Missing, Digests, Journal, Form, Memory, NotImage, NoEntry, Receipt, TooFar}
+use Rattle.cli_audit.specs.declared.status.Status.TheVariants.{Done, No, Words, Limit, SourceFault, SinkFault, VaultFault, Missing, Digests, Journal, Form, Memory, NotImage, NoEntry, Receipt, TooFar, NoDigestHeld}
 use Rattle.cli_commands.specs.Answer.{InputCause}
 use Rattle.cli_audit.specs.Calls.{Moved, ReadsOf, AreReads}
 use Rattle.cli_commands.specs.Input.{InputForm}
@@ -23,6 +23,7 @@ module _ {A : Type 0} (form : InputForm A) where
   read_to_end NotImage input vault sink cause answers end = absurd cause
   read_to_end Receipt input vault sink cause answers end = absurd cause
   read_to_end (TooFar entries) input vault sink cause answers end = absurd cause
+  read_to_end NoDigestHeld input vault sink cause answers end = absurd cause
   read_to_end (Journal at) input vault sink cause answers end = absurd cause
   read_to_end Limit input vault sink cause answers end = inr end
   read_to_end SourceFault input vault sink cause answers end = absurd cause

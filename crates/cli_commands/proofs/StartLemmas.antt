@@ -8,7 +8,7 @@ use Rattle.base_io.specs.Store.{Names}
 use Rattle.sql_types.specs.declared.journal.Journal.{Journal as JournalOf}
 use Rattle.server_session.specs.KeptCell.{KeptCell}
 use Rattle.cli_audit.specs.declared.status.Status.{Status}
-use Rattle.cli_audit.specs.declared.status.Status.TheVariants.{Done, No, Words, Limit, SourceFault, SinkFault, VaultFault, Missing, Digests, Journal, Form, Memory, NotImage, NoEntry, Receipt, TooFar}
+use Rattle.cli_audit.specs.declared.status.Status.TheVariants.{Done, No, Words, Limit, SourceFault, SinkFault, VaultFault, Missing, Digests, Journal, Form, Memory, NotImage, NoEntry, Receipt, TooFar, NoDigestHeld}
 use Rattle.cli_audit.specs.AsOf.{HasReadBehind, IsUnread}
 use Rattle.cli_audit.specs.Calls.{AreWrites, Moved}
 use Rattle.cli_audit.specs.Past.{AreReadsBehindPast, HasReadBehindPast, MayGoOn, PastUnder}
@@ -53,6 +53,7 @@ module _ {A : Type 0} (form : InputForm A) where
   is_behind_input NoEntry bytes vault sink cause = absurd cause
   is_behind_input Receipt bytes vault sink cause = absurd cause
   is_behind_input (TooFar entries) bytes vault sink cause = absurd cause
+  is_behind_input NoDigestHeld bytes vault sink cause = absurd cause
 
 module _ (status : Status) (is : IsBehindInput status) where
   read_all : (input : List ℕ) (rest : Option (List ℕ)) → length input ≤ input_limit → rest ≡ Some [] → HasReadBehindPast status input rest

@@ -14,7 +14,7 @@ use Rattle.cli_audit.specs.Receipt.{ReceiptCause}
 use Rattle.cli_audit.specs.Replay.{ReplayCause}
 use Rattle.cli_audit.specs.Tell.{TellCause}
 use Rattle.cli_audit.specs.Upgrade.{UpgradeCause}
-use Rattle.cli_audit.specs.Verify.{VerifyCause}
+use Rattle.cli_audit.specs.Verified.{VerifyCause}
 use Rattle.cli_commands.specs.Words.{wanted_of}
 use Rattle.cli_audit.specs.Wanted.TheVariants as wanted
 
@@ -32,7 +32,7 @@ HasCause status h (Some (Run save None how)) input names source vault sink =
     InputCause section_form status input source vault sink
 HasCause status h (Some (Run save (Some journal) how)) input names source vault sink =
     CauseBehind section_form status journal names input source vault sink
-HasCause status h (Some (Verify image digests workers)) input names source vault sink =
+HasCause status h (Some (Verify image digests workers covers)) input names source vault sink =
     VerifyCause status h image digests names vault sink
 HasCause status h (Some (Replay journal save)) input names source vault sink =
     ReplayCause status journal names vault sink

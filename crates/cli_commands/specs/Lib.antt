@@ -6,11 +6,16 @@ pub mod GoesOn
 pub mod Input
 pub mod Run
 pub mod Words
+pub use Rattle.cli_audit.specs.Coverage
+pub use Rattle.cli_audit.specs.Covers
 pub use Rattle.cli_audit.specs.Extract
 pub use Rattle.cli_audit.specs.Files
+pub use Rattle.cli_audit.specs.Judgement
 pub use Rattle.cli_audit.specs.Names
 pub use Rattle.cli_audit.specs.Replay
+pub use Rattle.cli_audit.specs.Subject
 pub use Rattle.cli_audit.specs.Transfer
+pub use Rattle.cli_audit.specs.Verified
 pub use Rattle.cli_audit.specs.Verify
 pub use Rattle.cli_audit.specs.declared.files.File
 pub use Rattle.cli_audit.specs.declared.status.Status

@@ -27,9 +27,10 @@ abbrev pub OfRunFrom : Option Command → (List ℕ → List ℕ → Settings �
 OfRunFrom (Some (Run save (Some journal) how)) P = P save journal how
 OfRunFrom words P = Unit {0}
 
--- what is so of the names that `verify` is given; the number of workers changes nothing that it says
-abbrev pub OfVerify : Option Command → (List ℕ → List ℕ → Type 0) → Type 0
-OfVerify (Some (Verify image digests workers)) P = P image digests
+-- what is so of the names that `verify` is given, that of digests where it is, and of whether it is said what they cover;
+-- the number of workers changes nothing that it says
+abbrev pub OfVerify : Option Command → (List ℕ → Option (List ℕ) → Bool → Type 0) → Type 0
+OfVerify (Some (Verify image digests workers covers)) P = P image digests covers
 OfVerify words P = Unit {0}
 
 -- what is so of the names that `replay` is given
@@ -97,3 +98,10 @@ puts_files (Some (Upgrade image save)) = true
 puts_files (Some (Receipt image digests tx part save)) = true
 puts_files (Some (Join image digests save)) = true
 puts_files words = false
+
+-- the command may note what digests cover
+abbrev pub notes_coverage : Option Command → Bool
+notes_coverage (Some (Verify image digests workers covers)) = true
+notes_coverage (Some (Extract honest suspect digests)) = true
+notes_coverage (Some (AsOf image n digests)) = true
+notes_coverage words = false

@@ -12,5 +12,5 @@ mod step_from;
 mod top;
 mod version;
 
-pub use cli_audit::{INPUT_LIMIT, Status};
+pub use cli_audit::{Coverage, Ended, INPUT_LIMIT, Status, coverage_text};
 pub use top::ledgerd;

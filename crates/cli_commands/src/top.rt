@@ -9,7 +9,7 @@ ghost use Rattle.cli_commands.specs.Words.{OfStep, OfStepFrom, OfRun, OfRunFrom}
 ghost use Rattle.cli_commands.specs.Words.{OfVerify, OfReplay, OfUpgrade, OfExtract, OfGen, OfTell};
 ghost use Rattle.cli_commands.specs.Words.{OfReceipt, OfCheck, OfAsOf};
 ghost use Rattle.cli_audit.specs.AsOf.{AreReadsBehind, HasReadBehind, SaysAnswers};
-ghost use Rattle.cli_commands.specs.Words.{reads_input, puts_files};
+ghost use Rattle.cli_commands.specs.Words.{notes_coverage, reads_input, puts_files};
 ghost use Rattle.cli_audit.specs.Answer.{HasRead, Unfailed};
 ghost use Rattle.cli_commands.specs.Answer.{RanAndSaved, RunOutcomeOrIdle};
 ghost use Rattle.cli_audit.specs.Calls.{AreReads, AreWrites};
@@ -26,7 +26,8 @@ ghost use Rattle.cli_audit.specs.Replay.{JournalUnder, SavesReplay, ReplayedOrId
 ghost use Rattle.cli_commands.specs.Run.{LinesComeTo, SectionsComeTo};
 ghost use Rattle.cli_audit.specs.Tell.{HasTold};
 ghost use Rattle.cli_audit.specs.Upgrade.{Upgraded, UpgradedOrIdle, PutsTheSame};
-ghost use Rattle.cli_audit.specs.Verify.{SaysVerdict, SaidOrIdle};
+ghost use Rattle.cli_audit.specs.Verified.{SaysVerdict};
+ghost use Rattle.cli_audit.specs.Verify.{SaidOrIdle};
 
 use crate::generate::generate;
 use crate::part::receipt_of_part;
@@ -39,8 +40,8 @@ use base_io::{Clock, Gate, Sink, Source, Vault};
 use base_merkle::Sha256Hash;
 use base_types::Memory;
 use cli_audit::{
-    Status, Wanted, answer_as_of, check_receipt, compare_images, make_receipt, replay_journal,
-    tell_text, upgrade_image, verify_image,
+    Ended, Status, Wanted, answer_as_of, check_receipt, compare_images, make_receipt,
+    replay_journal, tell_text, upgrade_image, verify_image,
 };
 use cli_words::{Command, help_text, read_command};
 use std::alloc::Global;
@@ -78,7 +79,9 @@ use std::thread::Threads;
 ///
 /// `verify IMAGE DIGESTS` reads what stands under the two names, and writes the verdict on the image with the
 /// digests: `Yes`, and the status is `Done`, or `No` with the first invariant that fails and its least place,
-/// and the status is `No`. It puts nothing and reads no input.
+/// and the status is `No`. Where the list has no digest the status is `NoDigestHeld` in the place of `Done`, as it is of
+/// `extract` and of `asof --digests`. `verify IMAGE` asks for no digest: it looks at the image alone. It puts nothing and
+/// reads no input.
 ///
 /// `replay JOURNAL --save NAME` reads what stands under the name of a journal, as `step` and `run` save
 /// one, and runs its statements again in their order, one transaction after another. Where each is answered
@@ -110,12 +113,18 @@ use std::thread::Threads;
 /// `join IMAGE DIGESTS --save NAME` does the same of the digests themselves: what it puts under `NAME.chain` are the
 /// records from the least to the greatest of the digests' blocks, and it writes the numbers of these two.
 ///
+/// What the digests cover of an image that `verify`, `extract` or `asof --digests` accepted is noted: how many of its
+/// transactions, and which of its blocks. `verify --coverage IMAGE DIGESTS` writes it on a second line instead.
+///
 /// `check RECEIPT DIGESTS` reads what stands under the two names, and tells the kind of the receipt by its first
 /// bytes. Where it is accepted with the first digest that is of its last record's block it writes `Yes`, and the
-/// status is `Done`; else `No receipt`, and the status is `No`. A chain is held against the other digests too. After
+/// status is `Done`; of a chain `Yes` and the blocks of its first and last record, where its records are in order and
+/// each digest is that of one of them. Else the status is `No`, and it writes `No join of block K` where a chain leaves
+/// a digest out, K being the least block of those that it leaves out; `No digest of block K` where no digest is of the
+/// last block, which is K; and `No receipt` for the rest. After
 /// `Yes` each image that is accepted with this digest has the receipt's entry at its place, just the events of it in
-/// the table that a receipt has all of, the event that one has, and the block of each digest that a chain joins; or
-/// SHA-256 has a collision of a string of bytes that is hashed where the receipt is checked with one that is hashed
+/// the table that a receipt has all of, the event that one has, and the block of each digest that is held with a chain;
+/// or SHA-256 has a collision of a string of bytes that is hashed where the receipt is checked with one that is hashed
 /// where the image is verified. It puts nothing and reads no input.
 ///
 /// `asof IMAGE N` reads what stands under the name and verifies the image, with the digests under another name where
@@ -166,9 +175,9 @@ pub fn ledgerd<S: Source, K: Sink, V: Vault, C: Clock, G: Gate, R: Threads + Wai
     vault: &mut V,
     clock: &C,
     gate: &G,
-) -> Status
+) -> Ended
     // Each status has its cause.
-    ensures cause { HasCause result sha256 (command_of (map string_bytes words.now))
+    ensures cause { HasCause result.status sha256 (command_of (map string_bytes words.now))
         (S.left source.old) (V.names vault.old)
         (Rises (S.faults source.old) (S.faults source.new))
         (Rises (V.faults vault.old) (V.faults vault.new))
@@ -186,17 +195,17 @@ pub fn ledgerd<S: Source, K: Sink, V: Vault, C: Clock, G: Gate, R: Threads + Wai
     // `step`: what is read, by the status; and what is put and written of a run whose transcripts, journal,
     // digests and images agree.
     ensures read { OfStep (command_of (map string_bytes words.now))
-        (λ save settings. IfSome (S.left source.old) (λ input. HasRead result input (S.left source.new))) }
-    ensures ran { OfStep (command_of (map string_bytes words.now)) (λ save settings. RunOutcomeOrIdle result
-        (RanAndSaved result line_form (LinesComeTo sha256 settings (C.says clock.now)) save (S.left source.old)
+        (λ save settings. IfSome (S.left source.old) (λ input. HasRead result.status input (S.left source.new))) }
+    ensures ran { OfStep (command_of (map string_bytes words.now)) (λ save settings. RunOutcomeOrIdle result.status
+        (RanAndSaved result.status line_form (LinesComeTo sha256 settings (C.says clock.now)) save (S.left source.old)
         (V.names vault.old) (V.names vault.new) (K.taken sink.old) (K.taken sink.new))
         ((vault.new ≡ vault.old) × (sink.new ≡ sink.old))) }
 
     // `run`: the same of sections whose sessions were run side by side.
     ensures read_sections { OfRun (command_of (map string_bytes words.now))
-        (λ save settings. IfSome (S.left source.old) (λ input. HasRead result input (S.left source.new))) }
-    ensures ran_all { OfRun (command_of (map string_bytes words.now)) (λ save settings. RunOutcomeOrIdle result
-        (RanAndSaved result section_form (SectionsComeTo sha256 settings (C.says clock.now)) save (S.left source.old)
+        (λ save settings. IfSome (S.left source.old) (λ input. HasRead result.status input (S.left source.new))) }
+    ensures ran_all { OfRun (command_of (map string_bytes words.now)) (λ save settings. RunOutcomeOrIdle result.status
+        (RanAndSaved result.status section_form (SectionsComeTo sha256 settings (C.says clock.now)) save (S.left source.old)
         (V.names vault.old) (V.names vault.new) (K.taken sink.old) (K.taken sink.new))
         ((vault.new ≡ vault.old) × (sink.new ≡ sink.old))) }
 
@@ -205,196 +214,224 @@ pub fn ledgerd<S: Source, K: Sink, V: Vault, C: Clock, G: Gate, R: Threads + Wai
     // blocks which it closed.
     ensures read_behind { OfStepFrom (command_of (map string_bytes words.now))
         (λ save journal settings. IfSome (S.left source.old)
-        (λ input. HasReadBehindPast result input (S.left source.new))) }
+        (λ input. HasReadBehindPast result.status input (S.left source.new))) }
     ensures ran_behind { OfStepFrom (command_of (map string_bytes words.now))
-        (λ save journal settings. ReplayedOrIdle result
-        (JournalUnder journal (V.names vault.old) (λ J. RanAndSaved result line_form
+        (λ save journal settings. ReplayedOrIdle result.status
+        (JournalUnder journal (V.names vault.old) (λ J. RanAndSaved result.status line_form
         (LinesComeToBehind sha256 settings (C.says clock.now) J) save (S.left source.old)
         (V.names vault.old) (V.names vault.new) (K.taken sink.old) (K.taken sink.new)))
         ((V.names vault.new ≡ V.names vault.old) × (sink.new ≡ sink.old))) }
     ensures read_sections_behind { OfRunFrom (command_of (map string_bytes words.now))
         (λ save journal settings. IfSome (S.left source.old)
-        (λ input. HasReadBehindPast result input (S.left source.new))) }
+        (λ input. HasReadBehindPast result.status input (S.left source.new))) }
     ensures ran_all_behind { OfRunFrom (command_of (map string_bytes words.now))
-        (λ save journal settings. ReplayedOrIdle result
-        (JournalUnder journal (V.names vault.old) (λ J. RanAndSaved result section_form
+        (λ save journal settings. ReplayedOrIdle result.status
+        (JournalUnder journal (V.names vault.old) (λ J. RanAndSaved result.status section_form
         (SectionsComeToBehind sha256 settings (C.says clock.now) J) save (S.left source.old)
         (V.names vault.old) (V.names vault.new) (K.taken sink.old) (K.taken sink.new)))
         ((V.names vault.new ≡ V.names vault.old) × (sink.new ≡ sink.old))) }
 
-    // `verify`: the line of the verdict on what stands under the names, by the status.
+    // `verify`: the line of the verdict on what stands under the names, and what the digests cover, by the status: on a
+    // second line where it is asked for, and else as what is noted.
     ensures verified { OfVerify (command_of (map string_bytes words.now))
-        (λ image digests. SaidOrIdle result
-        (SaysVerdict result sha256 image digests
+        (λ image digests covers. SaidOrIdle result.status
+        (SaysVerdict result.status sha256 image digests covers result.covers
         (V.names vault.old) (K.taken sink.old) (K.taken sink.new)) (sink.new ≡ sink.old)) }
 
     // `extract`: the lines of what is found of the two images under the names, by the status.
     ensures extracts { OfExtract (command_of (map string_bytes words.now))
-        (λ honest suspect digests. SaidOrIdle result
-        (Extracts result sha256 honest suspect digests
+        (λ honest suspect digests. SaidOrIdle result.status
+        (Extracts result.status sha256 honest suspect digests result.covers
         (V.names vault.old) (K.taken sink.old) (K.taken sink.new)) (sink.new ≡ sink.old)) }
 
     // `gen`: the lines of what is counted of a run of the workload, which are those that are expected.
     ensures generated { OfGen (command_of (map string_bytes words.now))
-        (λ count. SaidOrIdle result
-        (HasGenerated result sha256 count (K.taken sink.old) (K.taken sink.new)) (sink.new ≡ sink.old)) }
+        (λ count. SaidOrIdle result.status
+        (HasGenerated result.status sha256 count (K.taken sink.old) (K.taken sink.new)) (sink.new ≡ sink.old)) }
 
     // Help and the version: the text, by the status.
     ensures told { OfTell (command_of (map string_bytes words.now))
-        (λ text. SaidOrIdle result
-        (HasTold result text (K.taken sink.old) (K.taken sink.new)) (sink.new ≡ sink.old)) }
+        (λ text. SaidOrIdle result.status
+        (HasTold result.status text (K.taken sink.old) (K.taken sink.new)) (sink.new ≡ sink.old)) }
 
     // `replay`: what is put and written of the legal journal under the name, by the status; and the image
     // that is put is accepted with any digests of the journal's blocks.
     ensures replayed { OfReplay (command_of (map string_bytes words.now))
-        (λ journal save. ReplayedOrIdle result
-        (SavesReplay result sha256 journal save
+        (λ journal save. ReplayedOrIdle result.status
+        (SavesReplay result.status sha256 journal save
         (V.names vault.old) (V.names vault.new) (K.taken sink.old) (K.taken sink.new))
         ((V.names vault.new ≡ V.names vault.old) × (sink.new ≡ sink.old))) }
     ensures accepted { OfReplay (command_of (map string_bytes words.now))
-        (λ journal save. result ≡ Status.Done
+        (λ journal save. result.status ≡ Status.Done
         → PutsAccepted sha256 journal save (V.names vault.old) (V.names vault.new)) }
 
     // `upgrade`: what is put and written of the image under the name, by the status; and what is put has the
     // verdict of what was read, with every hash and every list of digests.
     ensures upgraded { OfUpgrade (command_of (map string_bytes words.now))
-        (λ image save. UpgradedOrIdle result
-        (Upgraded result image save
+        (λ image save. UpgradedOrIdle result.status
+        (Upgraded result.status image save
         (V.names vault.old) (V.names vault.new) (K.taken sink.old) (K.taken sink.new))
         ((V.names vault.new ≡ V.names vault.old) × (sink.new ≡ sink.old))) }
     ensures one_verdict { OfUpgrade (command_of (map string_bytes words.now))
-        (λ image save. result ≡ Status.Done
+        (λ image save. result.status ≡ Status.Done
         → PutsTheSame image save (V.names vault.old) (V.names vault.new)) }
 
     // `receipt` and `join`: what is put and written of the receipt, or the line of a verdict that isn't Yes, by the
     // status; and the receipt that is put is accepted with the digest of the greatest block, a chain with all.
     ensures receipted { OfReceipt (command_of (map string_bytes words.now))
-        (λ image digests wanted save. ReceiptedOrIdle result
-        (Receipted result sha256 image digests wanted save
+        (λ image digests wanted save. ReceiptedOrIdle result.status
+        (Receipted result.status sha256 image digests wanted save
         (V.names vault.old) (V.names vault.new) (K.taken sink.old) (K.taken sink.new))
-        (SaysNo result sha256 image digests
+        (SaysNo result.status sha256 image digests
         (V.names vault.old) (V.names vault.new) (K.taken sink.old) (K.taken sink.new))
         ((V.names vault.new ≡ V.names vault.old) × (sink.new ≡ sink.old))) }
     ensures shown { OfReceipt (command_of (map string_bytes words.now))
-        (λ image digests wanted save. result ≡ Status.Done
+        (λ image digests wanted save. result.status ≡ Status.Done
         → PutsReceipt sha256 image digests wanted save (V.names vault.old) (V.names vault.new)) }
 
-    // `check`: the line of what is said of the receipt under the name, of whatever kind, by the status; and after
+    // `check`: the line of what is answered of the receipt or chain under the name, by the status; and after
     // `Yes` no image that is accepted with the digest contradicts it, or SHA-256 has a collision of what is hashed
     // of the receipt and of the image.
     ensures checked { OfCheck (command_of (map string_bytes words.now))
-        (λ receipt digests. SaidOrIdle result
-        (Checks result sha256 receipt digests
+        (λ receipt digests. SaidOrIdle result.status
+        (Checks result.status sha256 receipt digests
         (V.names vault.old) (K.taken sink.old) (K.taken sink.new)) (sink.new ≡ sink.old)) }
     ensures shows { OfCheck (command_of (map string_bytes words.now))
-        (λ receipt digests. result ≡ Status.Done → ShowsClaim sha256 receipt digests (V.names vault.old)) }
+        (λ receipt digests. result.status ≡ Status.Done → ShowsClaim sha256 receipt digests (V.names vault.old)) }
 
     // `asof`: what is read behind the names, by the status; and what is told of the image under the name, by the texts
     // of the input.
     ensures read_texts { OfAsOf (command_of (map string_bytes words.now))
         (λ image n digests. IfSome (S.left source.old)
-        (λ input. HasReadBehind result input (S.left source.new))) }
+        (λ input. HasReadBehind result.status input (S.left source.new))) }
     ensures answered { OfAsOf (command_of (map string_bytes words.now))
-        (λ image n digests. SaidOrIdle result
-        (SaysAnswers result sha256 image n digests (S.left source.old)
+        (λ image n digests. SaidOrIdle result.status
+        (SaysAnswers result.status sha256 image n digests result.covers (S.left source.old)
         (V.names vault.old) (K.taken sink.old) (K.taken sink.new)) (sink.new ≡ sink.old)) }
 
     // The first fault or stall is the last call: nothing is tried again, and nothing is read behind the end.
     ensures reads { OfStep (command_of (map string_bytes words.now))
-        (λ save settings. Since (S.history source.old) (S.history source.new) (AreReads result)) }
+        (λ save settings. Since (S.history source.old) (S.history source.new) (AreReads result.status)) }
     ensures reads_sections { OfRun (command_of (map string_bytes words.now))
-        (λ save settings. Since (S.history source.old) (S.history source.new) (AreReads result)) }
+        (λ save settings. Since (S.history source.old) (S.history source.new) (AreReads result.status)) }
     ensures reads_behind { OfStepFrom (command_of (map string_bytes words.now))
-        (λ save journal settings. Since (S.history source.old) (S.history source.new) (AreReadsBehindPast result)) }
+        (λ save journal settings. Since (S.history source.old) (S.history source.new) (AreReadsBehindPast result.status)) }
     ensures reads_sections_behind { OfRunFrom (command_of (map string_bytes words.now))
-        (λ save journal settings. Since (S.history source.old) (S.history source.new) (AreReadsBehindPast result)) }
+        (λ save journal settings. Since (S.history source.old) (S.history source.new) (AreReadsBehindPast result.status)) }
     ensures reads_texts { OfAsOf (command_of (map string_bytes words.now))
-        (λ image n digests. Since (S.history source.old) (S.history source.new) (AreReadsBehind result)) }
+        (λ image n digests. Since (S.history source.old) (S.history source.new) (AreReadsBehind result.status)) }
     ensures calls { Since (V.history vault.old) (V.history vault.new)
-        (AreCalls (command_of (map string_bytes words.now)) result) }
-    ensures writes { Since (K.history sink.old) (K.history sink.new) (AreWrites result) }
-    ensures unfailed { Unfailed result (S.faults source.new ≡ S.faults source.old)
+        (AreCalls (command_of (map string_bytes words.now)) result.status) }
+    ensures writes { Since (K.history sink.old) (K.history sink.new) (AreWrites result.status) }
+    ensures unfailed { Unfailed result.status (S.faults source.new ≡ S.faults source.old)
         (V.faults vault.new ≡ V.faults vault.old)
         ((K.faults sink.new ≡ K.faults sink.old) × (K.stalls sink.new ≡ K.stalls sink.old)) }
 
+    // Of other commands nothing is noted.
+    ensures unnoted { notes_coverage (command_of (map string_bytes words.now)) ≡ false → result.covers ≡ None }
+
     // Nothing is written before all is put, and before the verdict.
-    ensures unwritten { (result ≡ Status.Done → ⊥) → (result ≡ Status.No → ⊥)
-        → (result ≡ Status.SinkFault → ⊥)
+    ensures unwritten { (result.status ≡ Status.Done → ⊥) → (result.status ≡ Status.No → ⊥)
+        → (result.status ≡ Status.NoDigestHeld → ⊥) → (result.status ≡ Status.SinkFault → ⊥)
         → sink.new ≡ sink.old }
 {
     let command = match read_command(alloc, words) {
         Ok(Some(command)) => command,
-        Ok(None) => return Status::Words,
-        Err(Memory) => return Status::Memory,
+        Ok(None) => {
+            return Ended {
+                status: Status::Words,
+                covers: None,
+            };
+        }
+        Err(Memory) => {
+            return Ended {
+                status: Status::Memory,
+                covers: None,
+            };
+        }
     };
     match command {
         Command::Step {
             save,
             from: None,
             settings,
-        } => {
-            step(
+        } => Ended {
+            status: step(
                 alloc, Sha256Hash, save, settings, source, sink, vault, clock,
-            )
-        }
+            ),
+            covers: None,
+        },
         Command::Step {
             save,
             from: Some(journal),
             settings,
-        } => {
-            step_from(
+        } => Ended {
+            status: step_from(
                 alloc, Sha256Hash, save, journal, settings, source, sink, vault, clock,
-            )
-        }
+            ),
+            covers: None,
+        },
         Command::Run {
             save,
             from: None,
             settings,
-        } => {
-            run_side_by_side(
+        } => Ended {
+            status: run_side_by_side(
                 rt, alloc, Sha256Hash, save, settings, source, sink, vault, clock, gate,
-            )
-        }
+            ),
+            covers: None,
+        },
         Command::Run {
             save,
             from: Some(journal),
             settings,
-        } => {
-            run_from(
+        } => Ended {
+            status: run_from(
                 rt, alloc, Sha256Hash, save, journal, settings, source, sink, vault, clock, gate,
-            )
-        }
+            ),
+            covers: None,
+        },
         Command::Verify {
             image,
             digests,
             workers,
-        } => verify_image(rt, alloc, Sha256Hash, image, digests, workers, sink, vault),
+            covers,
+        } => {
+            verify_image(
+                rt, alloc, Sha256Hash, image, digests, workers, covers, sink, vault,
+            )
+        }
         Command::Extract {
             honest,
             suspect,
             digests,
         } => compare_images(alloc, Sha256Hash, honest, suspect, digests, sink, vault),
-        Command::Replay { journal, save } => {
-            replay_journal(alloc, Sha256Hash, journal, save, sink, vault)
-        }
-        Command::Upgrade { image, save } => upgrade_image(alloc, image, save, sink, vault),
+        Command::Replay { journal, save } => Ended {
+            status: replay_journal(alloc, Sha256Hash, journal, save, sink, vault),
+            covers: None,
+        },
+        Command::Upgrade { image, save } => Ended {
+            status: upgrade_image(alloc, image, save, sink, vault),
+            covers: None,
+        },
         Command::Receipt {
             image,
             digests,
             tx,
             part,
             save,
-        } => {
-            receipt_of_part(
+        } => Ended {
+            status: receipt_of_part(
                 alloc, Sha256Hash, image, digests, tx, part, save, sink, vault,
-            )
-        }
+            ),
+            covers: None,
+        },
         Command::Join {
             image,
             digests,
             save,
-        } => {
-            make_receipt(
+        } => Ended {
+            status: make_receipt(
                 alloc,
                 Sha256Hash,
                 image,
@@ -403,16 +440,27 @@ pub fn ledgerd<S: Source, K: Sink, V: Vault, C: Clock, G: Gate, R: Threads + Wai
                 save,
                 sink,
                 vault,
-            )
-        }
-        Command::Check { receipt, digests } => {
-            check_receipt(alloc, Sha256Hash, receipt, digests, sink, vault)
-        }
+            ),
+            covers: None,
+        },
+        Command::Check { receipt, digests } => Ended {
+            status: check_receipt(alloc, Sha256Hash, receipt, digests, sink, vault),
+            covers: None,
+        },
         Command::AsOf { image, n, digests } => {
             answer_as_of(alloc, Sha256Hash, image, n, digests, source, sink, vault)
         }
-        Command::Gen { count } => generate(rt, alloc, Sha256Hash, count, sink),
-        Command::Help(which) => tell_text(help_text(which), sink),
-        Command::Version => tell_version(alloc, sink),
+        Command::Gen { count } => Ended {
+            status: generate(rt, alloc, Sha256Hash, count, sink),
+            covers: None,
+        },
+        Command::Help(which) => Ended {
+            status: tell_text(help_text(which), sink),
+            covers: None,
+        },
+        Command::Version => Ended {
+            status: tell_version(alloc, sink),
+            covers: None,
+        },
     }
 }

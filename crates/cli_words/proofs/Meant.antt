@@ -7,7 +7,7 @@ use Rattle.clap.specs.Words.{fault_of, matches_of, rows_of, found_of, first_valu
 use Rattle.clap.specs.declared.parser.matches.ArgMatches.{ArgMatches}
 use Rattle.clap.proofs.WalkLemmas.{first_value-rows, list_any-map}
 use Rattle.cli_words.specs.Line.{Text, Use, uses_of, ◌>>=◌}
-use Rattle.cli_words.specs.Commands.{given, has_dashes, settings, past_journal, part, meaning_of, arguments_of}
+use Rattle.cli_words.specs.Commands.{given, has_dashes, settings, past_journal, part, meaning_of, plain_of}
 use Rattle.cli_words.specs.Shapes.{Matched, Finds, app_for}
 use Rattle.cli_words.specs.Subcommands.{operands_of, options_of}
 use Rattle.cli_words.specs.declared.subcommand.Subcommand.{Subcommand}
@@ -75,8 +75,8 @@ same Check f g h = rw (h (codes "RECEIPT"), h (codes "DIGESTS")) refl
 same AsOf f g h = rw (h (codes "IMAGE"), h (codes "N"), h (codes "digests")) refl
 
 pub arguments_found : (which : Subcommand) (words : List Text) (m : ArgMatches) → has_dashes words ≡ false
-    → Finds (uses_of (options_of which) (operands_of which) words) (Some m) → meaning_of which (first_value (found_of m)) ≡ arguments_of which words
-unfolding arguments_of
+    → Finds (uses_of (options_of which) (operands_of which) words) (Some m) → meaning_of which (first_value (found_of m)) ≡ plain_of which words
+unfolding plain_of
 arguments_found which words m none finds = rw none (go (uses_of (options_of which) (operands_of which) words) finds)
   where
     go : (u : Option (List Use)) → Finds u (Some m) → meaning_of which (first_value (found_of m)) ≡ u >>= λ uses. meaning_of which (given uses)
@@ -84,16 +84,16 @@ arguments_found which words m none finds = rw none (go (uses_of (options_of whic
     go (Some uses) f = same which (first_value (found_of m)) (given uses) f
 
 pub arguments_none : (which : Subcommand) (words : List Text) → has_dashes words ≡ false
-    → Finds (uses_of (options_of which) (operands_of which) words) None → None ≡ arguments_of which words
-unfolding arguments_of
+    → Finds (uses_of (options_of which) (operands_of which) words) None → None ≡ plain_of which words
+unfolding plain_of
 arguments_none which words none finds = rw none (go (uses_of (options_of which) (operands_of which) words) finds)
   where
     go : (u : Option (List Use)) → Finds u None → None ≡ u >>= λ uses. meaning_of which (given uses)
     go None f = refl
     go (Some uses) f = absurd f
 
-pub arguments_dashes : (which : Subcommand) (words : List Text) → has_dashes words ≡ true → None ≡ arguments_of which words
-unfolding arguments_of
+pub arguments_dashes : (which : Subcommand) (words : List Text) → has_dashes words ≡ true → None ≡ plain_of which words
+unfolding plain_of
 arguments_dashes which words some = rw some refl
 
 -- the test of the code is that of the definition

@@ -1,11 +1,11 @@
 -- The values of a command that words say have their ranges.
 use Rattle.std.proofs.Common.{ℕ, ◌≡◌, ◌≤◌, arith, Bool, true, false, List, [], ◌∷◌, Option, Some, None, refl, sym, subst, codes}
-use Rattle.std.specs.Prelude.{◌&&◌, ◌||◌, IfSome, if◌then◌else◌, nat_le, option_map}
+use Rattle.std.specs.Prelude.{◌&&◌, ◌||◌, IfSome, if◌then◌else◌, nat_le, option_map, drop}
 use Rattle.std.specs.Str.{bytes_eq}
 use Rattle.std.proofs.lemmas.Bool.Decides.{nat_tests}
 use Rattle.base_types.specs.DatabaseName.{is_database_name}
 use Rattle.base_types.specs.declared.moment.TheConstants.{MAX_TICKS}
-use Rattle.cli_words.specs.Commands.{Settings, AreInRange, IsInRange, Command, Step, Run, Verify, Extract, Replay, Upgrade, Gen, Receipt, Join, Check, AsOf, IsPartInRange, given, settings, past_journal, part_from, part, meaning_of, has_dashes, arguments_of, asks_help, alone, help_on, others, behind, command_of}
+use Rattle.cli_words.specs.Commands.{Settings, AreInRange, IsInRange, Command, Step, Run, Verify, Extract, Replay, Upgrade, Gen, Receipt, Join, Check, AsOf, IsPartInRange, given, settings, past_journal, part_from, part, meaning_of, has_dashes, plain_of, asks_coverage, covering, arguments_of, asks_help, alone, help_on, others, behind, command_of}
 use Rattle.cli_words.specs.Commands as said
 use Rattle.cli_words.specs.Forms.{is_number, number_from, number_in, database_name, file_name, save_name, or_default, if_given}
 use Rattle.cli_words.specs.Line.{Text, uses_of, ◌>>=◌}
@@ -139,11 +139,11 @@ has_range which.Run value =
     (λ save is. every (past_journal value) (λ journal. settings value >>= λ how. Some (Run save journal how)) IsInRange
     (λ journal given. every (settings value) (λ how. Some (Run save journal how)) IsInRange (λ how said d. is_some (Run save journal how) d (in_range value how said))))
 has_range which.Verify value =
-    every (value (codes "IMAGE") >>= file_name) (λ image. value (codes "DIGESTS") >>= file_name >>= λ digests. or_default 1 (number_in 1 16) (value (codes "workers")) >>= λ workers. Some (Verify image digests workers)) IsInRange
-    (λ image is. every (value (codes "DIGESTS") >>= file_name) (λ digests. or_default 1 (number_in 1 16) (value (codes "workers")) >>= λ workers. Some (Verify image digests workers)) IsInRange
-    (λ digests are. every (or_default 1 (number_in 1 16) (value (codes "workers"))) (λ workers. Some (Verify image digests workers)) IsInRange
+    every (value (codes "IMAGE") >>= file_name) (λ image. if_given file_name (value (codes "DIGESTS")) >>= λ digests. or_default 1 (number_in 1 16) (value (codes "workers")) >>= λ workers. Some (Verify image digests workers false)) IsInRange
+    (λ image is. every (if_given file_name (value (codes "DIGESTS"))) (λ digests. or_default 1 (number_in 1 16) (value (codes "workers")) >>= λ workers. Some (Verify image digests workers false)) IsInRange
+    (λ digests are. every (or_default 1 (number_in 1 16) (value (codes "workers"))) (λ workers. Some (Verify image digests workers false)) IsInRange
     (λ workers work d. let within = or_within 1 1 16 (record { least = omega arith; most = omega arith }) (value (codes "workers")) workers work in
-    is_some (Verify image digests workers) d (within.least, within.most))))
+    is_some (Verify image digests workers false) d (within.least, within.most))))
 has_range which.Extract value =
     every (value (codes "HONEST") >>= file_name) (λ honest. value (codes "SUSPECT") >>= file_name >>= λ suspect. value (codes "DIGESTS") >>= file_name >>= λ digests. Some (Extract honest suspect digests)) IsInRange
     (λ honest is. every (value (codes "SUSPECT") >>= file_name) (λ suspect. value (codes "DIGESTS") >>= file_name >>= λ digests. Some (Extract honest suspect digests)) IsInRange
@@ -185,15 +185,40 @@ has_range which.AsOf value =
     (λ digests are d. let b = bound (value (codes "N")) (number_in 0 MAX_TX) n said in
     let within = number_within 0 MAX_TX b.value n b.rest in is_some (AsOf image n digests) d within.most)))
 
-arguments_range : (w : Subcommand) (words : List Text) (c : Command) → arguments_of w words ≡ Some c → IsInRange c
-unfolding arguments_of
-arguments_range w words c e = go (has_dashes words) e
+plain_range : (w : Subcommand) (words : List Text) (c : Command) → plain_of w words ≡ Some c → IsInRange c
+unfolding plain_of
+plain_range w words c e = go (has_dashes words) e
   where
     go : (b : Bool) → (if b then None else uses_of (options_of w) (operands_of w) words >>= λ uses. meaning_of w (given uses)) ≡ Some c → IsInRange c
     go true f = absurd cc
     go false f =
         let a = bound (uses_of (options_of w) (operands_of w) words) (λ uses. meaning_of w (given uses)) c f in
         has_range w (given a.value) c a.rest
+
+covered : (c d : Command) → IsInRange c → covering c ≡ Some d → IsInRange d
+covered (Verify image digests workers covers) d range e = is_some (Verify image digests workers true) d range e
+covered (Step save journal how) d range e = absurd cc
+covered (Run save journal how) d range e = absurd cc
+covered (Extract honest suspect digests) d range e = absurd cc
+covered (Replay journal save) d range e = absurd cc
+covered (Upgrade image save) d range e = absurd cc
+covered (Gen count) d range e = absurd cc
+covered (Receipt image digests tx p save) d range e = absurd cc
+covered (Join image digests save) d range e = absurd cc
+covered (Check receipt digests) d range e = absurd cc
+covered (AsOf image n digests) d range e = absurd cc
+covered (said.Help w) d range e = absurd cc
+covered said.Version d range e = absurd cc
+
+arguments_range : (w : Subcommand) (words : List Text) (c : Command) → arguments_of w words ≡ Some c → IsInRange c
+unfolding arguments_of
+arguments_range w words c e = go (asks_coverage words) e
+  where
+    go : (b : Bool) → (if b then plain_of w (drop 1 words) >>= covering else plain_of w words) ≡ Some c → IsInRange c
+    go true f =
+        let a = bound (plain_of w (drop 1 words)) covering c f in
+        covered a.value c (plain_range w (drop 1 words) a.value a.found) a.rest
+    go false f = plain_range w words c f
 
 helped : (b : Bool) (w : Subcommand) (o : Option Command) (c : Command) → ((d : Command) → o ≡ Some d → IsInRange d)
     → (if b then Some (said.Help (Some w)) else o) ≡ Some c → IsInRange c

@@ -1,7 +1,7 @@
 -- The words behind a command, taken apart: options with their values, and operands.
-use Rattle.std.specs.Prelude.{◌≡◌, ◌+◌, ℕ, true, false, List, [], ◌∷◌, ◌++◌, Some, None, slice_get, flat_map}
+use Rattle.std.specs.Prelude.{◌≡◌, ◌+◌, ℕ, Bool, true, false, drop, List, [], ◌∷◌, ◌++◌, Some, None, slice_get, flat_map}
 use Rattle.clap.specs.Lexer.{long_of}
-use Rattle.cli_words.specs.Commands.{Command, given, has_dashes, meaning_of}
+use Rattle.cli_words.specs.Commands.{Command, asks_coverage, covering, given, has_dashes, meaning_of}
 use Rattle.cli_words.specs.Line.{Text, Use, is_among, is_short, is_used}
 use Rattle.cli_words.specs.Subcommands.{operands_of, options_of}
 use Rattle.cli_words.specs.declared.subcommand.Subcommand.{Subcommand}
@@ -41,10 +41,19 @@ Give options operands before at (operand value ∷ rest) all =
     × Give options operands (before ++ (name, value) ∷ []) (at + 1) rest all)
 
 -- the words spell arguments of this command, and what these give under their names means this
-pub record Says (which : Subcommand) (words : List Text) (command : Command) : Type 0 where
+pub record SaysPlain (which : Subcommand) (words : List Text) (command : Command) : Type 0 where
   pub arguments : List Argument
   pub uses : List Use
   pub spelling : words ≡ spelled_out arguments
   pub no_dashes : has_dashes words ≡ false
   pub give : Give (options_of which) (operands_of which) [] 0 arguments uses
   pub meaning : meaning_of which (given uses) ≡ Some command
+
+-- the same, by whether `--coverage` stands before them
+abbrev pub SaysBy : Bool → Subcommand → List Text → Command → Type 0
+SaysBy true which words command =
+    (plain : Command) × SaysPlain which (drop 1 words) plain × (covering plain ≡ Some command)
+SaysBy false which words command = SaysPlain which words command
+
+abbrev pub Says : Subcommand → List Text → Command → Type 0
+Says which words command = SaysBy (asks_coverage words) which words command

@@ -1,5 +1,5 @@
 -- What the words after the program's name say.
-use Rattle.std.specs.Prelude.{ℕ, ◌≡◌, ◌≤◌, Bool, true, false, ◌||◌, ◌&&◌, is_some, List, [], ◌∷◌, codes, Option, Some, None, IfSome, if◌then◌else◌, bytes_eq, find, option_map}
+use Rattle.std.specs.Prelude.{ℕ, ◌≡◌, ◌≤◌, Bool, true, false, ◌||◌, ◌&&◌, is_some, List, [], ◌∷◌, codes, Option, Some, None, IfSome, if◌then◌else◌, bytes_eq, find, option_map, drop}
 use Rattle.std.specs.List.{list_any}
 use Rattle.base_types.specs.DatabaseName.{is_database_name}
 use Rattle.base_types.specs.declared.moment.TheConstants.{MAX_TICKS}
@@ -32,8 +32,9 @@ pub data Command : Type 0 where
   -- given
   Step : Text → Option Text → Settings → Command
   Run : Text → Option Text → Settings → Command
-  -- the names of an image and of digests, and how many workers look
-  Verify : Text → Text → ℕ → Command
+  -- the name of an image, that of digests, where it is given, how many workers look, and whether it is said what the
+  -- digests cover
+  Verify : Text → Option Text → ℕ → Bool → Command
   -- the names of an honest image, of one that is suspected, and of digests
   Extract : Text → Text → Text → Command
   -- the name of a journal, and the name that its image is saved under
@@ -64,7 +65,7 @@ IsPartInRange (shown.Event id number) = (1 ≤ id) × (id ≤ MAX_TABLE) × (num
 abbrev pub IsInRange : Command → Type 0
 IsInRange (Step save journal how) = AreInRange how
 IsInRange (Run save journal how) = AreInRange how
-IsInRange (Verify image digests workers) = (1 ≤ workers) × (workers ≤ 16)
+IsInRange (Verify image digests workers covers) = (1 ≤ workers) × (workers ≤ 16)
 IsInRange (Gen count) = (1 ≤ count) × (count ≤ 10000)
 IsInRange (Receipt image digests tx part save) = (1 ≤ tx) × (tx ≤ MAX_TX) × IsPartInRange part
 IsInRange (AsOf image n digests) = n ≤ MAX_TX
@@ -109,9 +110,9 @@ meaning_of which.Step value = value (codes "save") >>= save_name >>= λ save.
 meaning_of which.Run value = value (codes "save") >>= save_name >>= λ save.
     past_journal value >>= λ journal. settings value >>= λ how. Some (Run save journal how)
 meaning_of which.Verify value = value (codes "IMAGE") >>= file_name >>= λ image.
-    value (codes "DIGESTS") >>= file_name >>= λ digests.
+    if_given file_name (value (codes "DIGESTS")) >>= λ digests.
     or_default 1 (number_in 1 16) (value (codes "workers")) >>= λ workers.
-    Some (Verify image digests workers)
+    Some (Verify image digests workers false)
 meaning_of which.Extract value = value (codes "HONEST") >>= file_name >>= λ honest.
     value (codes "SUSPECT") >>= file_name >>= λ suspect.
     value (codes "DIGESTS") >>= file_name >>= λ digests.
@@ -145,11 +146,26 @@ meaning_of which.AsOf value = value (codes "IMAGE") >>= file_name >>= λ image.
 abbrev pub has_dashes : List Text → Bool
 has_dashes words = list_any (λ w. bytes_eq w (codes "--")) words
 
--- what the words behind a command say: options as `--name value` or `--name=value`, each at most once, and
--- operands, in any order; no word is `--`
-unfoldable pub arguments_of : Subcommand → List Text → Option Command
-arguments_of which words = if has_dashes words then None
+-- what words say: options as `--name value` or `--name=value`, each at most once, and operands, in any order; no word
+-- is `--`
+unfoldable pub plain_of : Subcommand → List Text → Option Command
+plain_of which words = if has_dashes words then None
     else uses_of (options_of which) (operands_of which) words >>= λ uses. meaning_of which (given uses)
+
+-- the first word is `--coverage`
+abbrev pub asks_coverage : List Text → Bool
+asks_coverage [] = false
+asks_coverage (word ∷ words) = bytes_eq word (codes "--coverage")
+
+-- the command says what the digests cover; `verify` alone does
+abbrev pub covering : Command → Option Command
+covering (Verify image digests workers covers) = Some (Verify image digests workers true)
+covering command = None
+
+-- what the words behind a command say; `--coverage` stands before all others
+unfoldable pub arguments_of : Subcommand → List Text → Option Command
+arguments_of which words =
+    if asks_coverage words then plain_of which (drop 1 words) >>= covering else plain_of which words
 
 -- the words ask for help and nothing else
 abbrev pub asks_help : List Text → Bool

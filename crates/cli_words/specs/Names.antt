@@ -7,8 +7,8 @@ use Rattle.cli_words.specs.Line.{Text}
 abbrev pub name_read : Command → ℕ → Option Text
 name_read (Step save journal how) number = if number == 1 then journal else None
 name_read (Run save journal how) number = if number == 1 then journal else None
-name_read (Verify image digests workers) number =
-    if number == 1 then Some image else if number == 2 then Some digests else None
+name_read (Verify image digests workers covers) number =
+    if number == 1 then Some image else if number == 2 then digests else None
 name_read (Extract honest suspect digests) number =
     if number == 1 then Some honest else if number == 2 then Some suspect
     else if number == 3 then Some digests else None

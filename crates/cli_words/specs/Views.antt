@@ -11,7 +11,7 @@ settings_view s = record { block_size = s.block_size; clock = s.clock; database 
 abbrev pub command_view : coded.Command → Command
 command_view (words.Step save journal settings) = Step save.now (option_copied journal) (settings_view settings)
 command_view (words.Run save journal settings) = Run save.now (option_copied journal) (settings_view settings)
-command_view (words.Verify image digests workers) = Verify image.now digests.now workers
+command_view (words.Verify image digests workers covers) = Verify image.now (option_copied digests) workers covers
 command_view (words.Extract honest suspect digests) = Extract honest.now suspect.now digests.now
 command_view (words.Replay journal save) = Replay journal.now save.now
 command_view (words.Upgrade image save) = Upgrade image.now save.now

@@ -41,10 +41,12 @@ pub enum Command<'a> {
     Verify {
         /// The name of the image.
         image: &'a str,
-        /// The name of the digests that it is held against.
-        digests: &'a str,
+        /// The name of the digests that it is held against, where it is given.
+        digests: Option<&'a str>,
         /// How many threads look at it at most, 1 to 16.
         workers: u32,
+        /// Whether it is said what the digests cover.
+        covers: bool,
     },
     /// Says what two images are to each other.
     Extract {
@@ -181,12 +183,13 @@ fn verify_of<'a>(matches: &ArgMatches<'a>) -> Option<Command<'a>>
         ≡ spec.meaning_of Subcommand.Verify (first_value (found_of matches.now)) }
 {
     let image = file_name(matches.get_str("IMAGE")?)?;
-    let digests = file_name(matches.get_str("DIGESTS")?)?;
+    let digests = file_name_if_given(matches.get_str("DIGESTS"))?;
     let workers = number_or(1, 1, 16, matches.get_str("workers"))?;
     Some(Command::Verify {
         image,
         digests,
         workers,
+        covers: false,
     })
 }
 
@@ -336,13 +339,13 @@ fn has_dashes(words: &[String]) -> bool
 }
 
 /// What the words say, the first of which is left out; none where they lack the form.
-fn read_arguments<'a>(
+fn read_plain<'a>(
     alloc: Global,
     which: Subcommand,
     words: &'a [String],
 ) -> Result<Option<Command<'a>>, Memory>
     ensures { IfOk result (λ c. option_map command_view c
-        ≡ spec.arguments_of which (drop 1 (map string_bytes words.entry.now))) }
+        ≡ spec.plain_of which (drop 1 (map string_bytes words.entry.now))) }
 {
     if has_dashes(words) {
         return Ok(None);
@@ -354,6 +357,58 @@ fn read_arguments<'a>(
             drop(matches);
             Ok(meaning)
         }
+        None => Ok(None),
+    }
+}
+
+fn asks_coverage(words: &[String]) -> bool
+    ensures { result ≡ spec.asks_coverage (map string_bytes words.now) }
+{
+    match words {
+        [word, ..] => word.as_str() == "--coverage",
+        [] => false,
+    }
+}
+
+/// The command that says what the digests cover besides; none where it is no `verify`.
+fn covering<'a>(command: Command<'a>) -> Option<Command<'a>>
+    ensures { option_map command_view result ≡ spec.covering (command_view command.entry) }
+{
+    match command {
+        Command::Verify {
+            image,
+            digests,
+            workers,
+            covers: _,
+        } => Some(Command::Verify {
+            image,
+            digests,
+            workers,
+            covers: true,
+        }),
+        _ => None,
+    }
+}
+
+/// What the words say, the first of which is left out, and `--coverage` where it stands behind that; none where they
+/// lack the form.
+#[tactic(auto, unfolding(crate::specs::Commands::arguments_of))]
+fn read_arguments<'a>(
+    alloc: Global,
+    which: Subcommand,
+    words: &'a [String],
+) -> Result<Option<Command<'a>>, Memory>
+    ensures { IfOk result (λ c. option_map command_view c
+        ≡ spec.arguments_of which (drop 1 (map string_bytes words.entry.now))) }
+{
+    let [_, rest @ ..] = words else {
+        return read_plain(alloc, which, words);
+    };
+    if !asks_coverage(rest) {
+        return read_plain(alloc, which, words);
+    }
+    match read_plain(alloc, which, rest)? {
+        Some(command) => Ok(covering(command)),
         None => Ok(None),
     }
 }

@@ -13,7 +13,7 @@ pub fn name_read<'a>(command: Command<'a>, number: u8) -> Option<&'a str>
         (Command::Step { from, .. }, 1) => from,
         (Command::Run { from, .. }, 1) => from,
         (Command::Verify { image, .. }, 1) => Some(image),
-        (Command::Verify { digests, .. }, 2) => Some(digests),
+        (Command::Verify { digests, .. }, 2) => digests,
         (Command::Extract { honest, .. }, 1) => Some(honest),
         (Command::Extract { suspect, .. }, 2) => Some(suspect),
         (Command::Extract { digests, .. }, 3) => Some(digests),

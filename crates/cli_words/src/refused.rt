@@ -35,6 +35,8 @@ enum Fault<'a> {
     NoOption,
     /// It stands before a command, if anywhere.
     BeforeCommand,
+    /// It stands right behind `verify`, if anywhere, and has no value.
+    BehindVerify,
     NoValue,
     GivenTwice,
     TooMany,
@@ -96,6 +98,14 @@ fn is_name(form: Form) -> bool {
 /// The name of the operand at a place, from 0.
 fn operand_at<'a>(which: Subcommand, place: usize) -> Option<&'a str> {
     which.operands().get(place).copied()
+}
+
+/// How many operands have to be given; of `verify` the digests may be left out.
+fn needed_operands(which: Subcommand) -> usize {
+    match which {
+        Subcommand::Verify => 1,
+        _ => which.operands().len(),
+    }
 }
 
 fn has_option(which: Subcommand, name: &str) -> bool {
@@ -171,6 +181,8 @@ fn value_fault<'a>(option: Option<&'a str>, name: &str, word: &'a str) -> Option
 fn no_option<'a>(name: &str) -> Fault<'a> {
     if name == "quiet" || name == "C" {
         Fault::BeforeCommand
+    } else if name == "coverage" {
+        Fault::BehindVerify
     } else {
         Fault::NoOption
     }
@@ -239,8 +251,10 @@ fn missing<'a>(which: Subcommand, words: &[String], scan: &Scan<'a>) -> Option<R
     if let Some(name) = scan.begun {
         return of_option(name, Fault::NoValue);
     }
-    if let Some(name) = operand_at(which, scan.operands) {
-        return of_word(name, Fault::NotGiven);
+    if scan.operands < needed_operands(which) {
+        if let Some(name) = operand_at(which, scan.operands) {
+            return of_word(name, Fault::NotGiven);
+        }
     }
     if has_option(which, "save") && !is_given(words, "save") {
         return of_option("save", Fault::NotGiven);
@@ -267,6 +281,14 @@ fn fault_behind<'a>(which: Subcommand, words: &'a [String]) -> Option<Refused<'a
         }
     }
     missing(which, words, &scan)
+}
+
+/// The words behind a command without the `--coverage` that may stand before those of `verify`.
+fn without_coverage(which: Subcommand, words: &[String]) -> &[String] {
+    match (which, words.split_first()) {
+        (Subcommand::Verify, Some((first, rest))) if first.as_str() == "--coverage" => rest,
+        _ => words,
+    }
 }
 
 /// What is wrong with an option that stands before the command: one that was taken already, or has no value.
@@ -302,7 +324,7 @@ pub fn refused_word<'a>(words: &'a [String]) -> Option<Refused<'a>> {
     match words {
         [] => of_word("COMMAND", Fault::NotGiven),
         [first, rest @ ..] => match Subcommand::named(first.as_str()) {
-            Some(which) => fault_behind(which, rest),
+            Some(which) => fault_behind(which, without_coverage(which, rest)),
             None => fault_of_others(first.as_str(), rest),
         },
     }
@@ -327,6 +349,7 @@ impl fmt::Display for Fault<'_> {
             Fault::NoCommand => f.write_str("no command; `ledgerd --help` has them"),
             Fault::NoOption => f.write_str("no option of this command"),
             Fault::BeforeCommand => f.write_str("stands before the command"),
+            Fault::BehindVerify => f.write_str("stands right after `verify`, without a value"),
             Fault::NoValue => f.write_str("no value after it"),
             Fault::GivenTwice => f.write_str("given twice"),
             Fault::TooMany => f.write_str("one word too many"),

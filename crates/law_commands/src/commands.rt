@@ -33,7 +33,8 @@ use spec_history::statements_have_such_a_meaning;
 /// Where `step`, `run` or `replay` ended with `Done` over a vault that tells what it has, and `verify` or `extract`
 /// runs over what the vault has then, under the names that were put: the line of `verify` is `Yes`, and that of
 /// `extract` with any other image that is accepted is `Same`, or `Collision` with two different strings of bytes
-/// that have one hash; unless a fault or want of memory comes first.
+/// that have one hash; unless a fault or want of memory comes first. A file without a digest shows nothing: the calls
+/// end with `NoDigestHeld` then.
 ///
 /// What was put has to be within the limits of what is read; the file of digests of a run is, where the input is
 /// told. With NAME.img goes NAME.digests, which has all digests that were issued; with NAME-m.img any file of
@@ -90,7 +91,7 @@ pub fn what_was_saved_is_accepted<K: Sink, V: Vault, C: Clock>()
         → EndsVerify h image digests (V.names vault)
         (faults_in (V.faults vault) (V.faults vault_then) (K.faults sink) (K.faults sink_then)
         (K.stalls sink) (K.stalls sink_then) (sink_then ≡ sink)) status (K.taken sink) (K.taken sink_then)
-        → SaysYes status
+        → SaysYes held status
         (faults_in (V.faults vault) (V.faults vault_then) (K.faults sink) (K.faults sink_then)
         (K.stalls sink) (K.stalls sink_then) (sink_then ≡ sink)) (K.taken sink) (K.taken sink_then) }
     ensures extract { (h : List ℕ → List ℕ) (names : Names) (honest suspect digests bytes other : List ℕ)

@@ -6,11 +6,11 @@ mod before;
 mod messages;
 
 use crate::before::split_before;
-use crate::messages::{Outside, tell, warn};
+use crate::messages::{Outside, note, tell, warn};
 use base_io::{
     Clock, FolderVault, MachineClock, OpenGate, Sink, Source, StdinSource, StdoutSink, Vault,
 };
-use cli_commands::{Status, ledgerd};
+use cli_commands::{Ended, Status, ledgerd};
 use cli_report::{WatchedSink, WatchedSource, with_progress};
 use std::env::Env;
 use std::io::IsTerminal;
@@ -83,7 +83,7 @@ fn answer<S: Source, K: Sink, V: Vault, C: Clock>(
     sink: &mut K,
     vault: &mut V,
     clock: &C,
-) -> Status {
+) -> Ended {
     ledgerd(rt, rt.alloc(), words, source, sink, vault, clock, &OpenGate)
 }
 
@@ -107,7 +107,7 @@ fn main(rt: HostRuntime) -> ExitCode {
     let mut vault = FolderVault::in_folder(rt, folder);
     let clock = MachineClock::new(rt);
     let call = || answer(&rt, words, &mut source, &mut sink, &mut vault, &clock);
-    let status = with_progress(&rt, command, call);
+    let Ended { status, covers } = with_progress(&rt, command, call);
     let outside = Outside {
         bytes: source.watch().bytes(),
         input: source.input(),
@@ -118,5 +118,8 @@ fn main(rt: HostRuntime) -> ExitCode {
     };
     let _ = warn(&rt, words, source.watch());
     let _ = tell(&rt, words, status, &outside);
+    if !before.is_quiet {
+        let _ = note(&rt, covers);
+    }
     ExitCode::from(status.code())
 }

@@ -3,7 +3,7 @@
 
 use crate::bad_file::{HEAD, explain_file};
 use base_io::FolderVault;
-use cli_commands::{INPUT_LIMIT, Status};
+use cli_commands::{Coverage, INPUT_LIMIT, Status, coverage_text};
 use cli_report::{InputForm, SectionWatch, TranscriptWatch, explain_line, place_of_statement};
 use cli_words::{OVERVIEW, name_read, read_command, refused_word, usage_of};
 use std::alloc::Global;
@@ -219,6 +219,16 @@ fn tell_entries(
         Some(name) => { eprintln!(rt; "ledgerd: {}: {name} has {entries}", status.text()) }
         None => eprintln!(rt; "ledgerd: {status}"),
     }
+}
+
+/// Says what the digests cover of an image that was accepted, and how many transactions they don't cover.
+pub fn note(rt: &(impl Eprint + AllocGlobal), covers: Option<Coverage>) -> io::Result<()> {
+    let Some(coverage) = covers else {
+        return Ok(());
+    };
+    let left = coverage.transactions.saturating_sub(coverage.covered);
+    let text = coverage_text(rt.alloc(), coverage)?;
+    eprintln!(rt; "ledgerd: {text}; no digest covers {left}")
 }
 
 /// Says which comments of an input of `run` look as if they began a section. Other commands have no sections.

@@ -25,7 +25,7 @@ pub fn run_command<K: Sink, V: Vault>(
     moment: u64,
 ) -> Status {
     let clock = FixedClock { at: moment };
-    ledgerd(
+    let ended = ledgerd(
         rt,
         rt.alloc(),
         words,
@@ -34,7 +34,8 @@ pub fn run_command<K: Sink, V: Vault>(
         vault,
         &clock,
         &OpenGate,
-    )
+    );
+    ended.status
 }
 
 fn put_both(vault: &mut MemVault, a: &[u8], b: &[u8]) -> Result<(), VaultErr> {

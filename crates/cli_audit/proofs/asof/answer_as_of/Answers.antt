@@ -16,20 +16,20 @@ returns-in-Err-clause-writes g c = writes_lacking _ c.args.image.now _ _ _ _ _ _
 -- what is told is said
 
 pub returns-in-Ok-clause-cause : goal.returns-in-Ok-clause-cause
-returns-in-Ok-clause-cause g c = cause_said _ c.args.image.now _ _ _ _ c.in-Ok.answers c.in-Ok.ensures.told _ _ _ _ c.say.result c.say.ensures.ends _ _
+returns-in-Ok-clause-cause g c = cause_said _ c.args.image.now _ _ _ _ c.in-Ok.answers c.in-Ok.ensures.told _ _ _ _ c.say-status.result c.say-status.ensures.ends _ _
 
 pub returns-in-Ok-clause-answered : goal.returns-in-Ok-clause-answered
-returns-in-Ok-clause-answered g c = answered_said _ c.args.image.now _ _ _ _ c.in-Ok.answers c.in-Ok.ensures.told _ _ _ _ c.say.result c.say.ensures.ends
+returns-in-Ok-clause-answered g c = answered_said _ c.args.image.now _ _ _ _ c.in-Ok.answers c.in-Ok.ensures.told _ _ _ _ c.say-status.result c.say-status.ensures.ends _ c.note_of-covers.ensures
 
 pub returns-in-Ok-clause-read : goal.returns-in-Ok-clause-read
 returns-in-Ok-clause-read g c =
-    read_said _ _ _ _ _ c.say.result c.say.ensures.ends _ _ c.in-Ok.ensures.told.came c.in-Ok.ensures.told.is_input c.in-Ok.ensures.told.within c.in-Ok.ensures.all_read
+    read_said _ _ _ _ _ _ c.say-status.result c.say-status.ensures.ends _ _ c.in-Ok.ensures.told.came c.in-Ok.ensures.told.is_input c.in-Ok.ensures.told.within c.in-Ok.ensures.all_read
 
 pub returns-in-Ok-clause-reads : goal.returns-in-Ok-clause-reads
-returns-in-Ok-clause-reads g c = reads_said _ _ _ _ _ c.say.result c.say.ensures.ends _ _ c.in-Ok.ensures.all_reads
+returns-in-Ok-clause-reads g c = reads_said _ _ _ _ _ _ c.say-status.result c.say-status.ensures.ends _ _ c.in-Ok.ensures.all_reads
 
 pub returns-in-Ok-clause-gets : goal.returns-in-Ok-clause-gets
-returns-in-Ok-clause-gets g c = gets_said _ _ _ _ _ c.say.result c.say.ensures.ends _ _ _ c.in-Ok.ensures.gave
+returns-in-Ok-clause-gets g c = gets_said _ _ _ _ _ _ c.say-status.result c.say-status.ensures.ends _ _ _ c.in-Ok.ensures.gave
 
 pub returns-in-Ok-clause-unfailed : goal.returns-in-Ok-clause-unfailed
-returns-in-Ok-clause-unfailed g c = unfailed_said _ _ _ _ _ c.say.result c.say.ensures.ends _ _ _ c.in-Ok.ensures.calm.0 c.in-Ok.ensures.calm.1 c.say.ensures.unfailed
+returns-in-Ok-clause-unfailed g c = unfailed_said _ _ _ _ _ _ c.say-status.result c.say-status.ensures.ends _ _ _ c.in-Ok.ensures.calm.0 c.in-Ok.ensures.calm.1 c.say-status.ensures.unfailed

@@ -1,7 +1,7 @@
 use Rattle.std.proofs.Common.{arith}
 use Rattle.std.proofs.lemmas.Result.{err_from_is_err_and}
 use Rattle.cli_audit.proofs.GetLemmas.{gave_none, gave_more, lacks_next}
-use Rattle.cli_audit.proofs.asof.read_alone.Goals as goal
+use Rattle.cli_audit.proofs.subject.read_alone.Goals as goal
 
 pub returns-in_err-bytes-clause-gets : goal.returns-in_err-bytes-clause-gets
 returns-in_err-bytes-clause-gets g c =

@@ -4,7 +4,7 @@ use Rattle.cli_words.specs.Line.{uses_of}
 use Rattle.cli_words.specs.Shapes.{Finds}
 use Rattle.cli_words.specs.Subcommands.{operands_of, options_of}
 use Rattle.cli_words.proofs.Meant.{arguments_found, arguments_none, arguments_dashes, dashes_are}
-use Rattle.cli_words.proofs.command.read_arguments.Goals as goal
+use Rattle.cli_words.proofs.command.read_plain.Goals as goal
 
 pub read_line-requires : goal.read_line-requires
 read_line-requires c = dashes_are c.args.words.now ∙ sym c.has_dashes.ensures ∙ c.if-has_dashes.false
