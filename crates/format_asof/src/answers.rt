@@ -1,10 +1,11 @@
 //! Answers, as they are written.
 
 ghost use Rattle.std.specs.Prelude.{◌≡◌, ◌++◌, IfOk, OnOk, flat_map, string_bytes};
-ghost use Rattle.format_asof.specs.Answers.{answer_lines, answer_text, indented};
+ghost use Rattle.format_reply.specs.Shown.{indented};
+ghost use Rattle.format_asof.specs.Answers.{answer_lines, answer_text};
 
 use base_types::Memory;
-use format_reply::indented_reply;
+use format_reply::shown_reply;
 use spec_asof::AsOfReply;
 use sql_types::Reply;
 use std::alloc::Global;
@@ -14,8 +15,8 @@ fn indented_answer(alloc: Global, answer: AsOfReply) -> Result<String, Memory>
     ensures { IfOk result (λ text. string_bytes text ≡ flat_map indented (answer_lines answer)) }
 {
     match answer {
-        AsOfReply::Rows(rows) => indented_reply(alloc, &Reply::Rows(rows)),
-        AsOfReply::Refused(refusal) => indented_reply(alloc, &Reply::Refused(refusal)),
+        AsOfReply::Rows(rows) => shown_reply(alloc, &Reply::Rows(rows)),
+        AsOfReply::Refused(refusal) => shown_reply(alloc, &Reply::Refused(refusal)),
         AsOfReply::NotSelect => Ok(format!(in alloc; "  E21\n")?),
     }
 }

@@ -1,3 +1,4 @@
 mod Codes
+mod Escapes
 mod Lines
 mod Shown

@@ -8,7 +8,7 @@ use Rattle.std.specs.Char.{is_ascii_digit}
 use Rattle.std.proofs.lemmas.Bool.{cases_Bool, and_parts, eqb-true, leb-true, ltb-true}
 use Rattle.std.proofs.lemmas.Bool.Decides.{nat_tests}
 use Rattle.std.proofs.Math.Seq.{take-append_seam, drop-append_seam, get_or-append_seam}
-use Rattle.std.proofs.lemmas.Str.{IsUtf8-append, IsUtf8-from_ascii, IsUtf8-take, IsUtf8-drop, IsUtf8-nil, IsCharBoundary-after_ascii, IsAscii-append, IsAscii-take, IsAscii-drop}
+use Rattle.std.proofs.lemmas.Str.{IsUtf8-append, IsUtf8-from_ascii, IsUtf8-take, IsUtf8-drop, IsUtf8-nil, IsCharBoundary-after_ascii, IsCharBoundary-before_ascii, IsAscii-append, IsAscii-take, IsAscii-drop}
 use Rattle.std.proofs.lemmas.Str.Ascii.{IsAscii-nil, IsAscii-cons}
 use Rattle.std.proofs.lemmas.Fmt.{IsAscii-decimal_wide}
 use Rattle.hex.specs.Hex.{encode_upper, upper_digits}
@@ -20,23 +20,25 @@ use Rattle.sql_value.specs.Printed.{sign, behind_point, pointed, doubled, day_te
 
 -- ---- texts
 
--- a quote may be doubled
-doubled_quote : (front cs : List ℕ) → (IsUtf8 cs → IsUtf8 (doubled cs)) → IsUtf8 (front ++ 39 ∷ cs) → IsUtf8 (front ++ 39 ∷ 39 ∷ doubled cs)
-doubled_quote front cs rest u =
-    let whole = front ++ 39 ∷ cs in
-    let quote : get_or whole (length front) 0 ≡ 39 = get_or-append_seam front 39 cs 0 in
-    let long : length whole ≡ length front + suc (length cs) = length-append front (39 ∷ cs) in
-    let seam : length (front ++ 39 ∷ []) ≡ length front + 1 = length-append front (39 ∷ []) in
-    let parts : (front ++ 39 ∷ []) ++ cs ≡ whole = append_assoc front (39 ∷ []) cs in
-    let at = IsCharBoundary-after_ascii whole (length front) u (omega (arith, long)) (omega (arith, quote)) in
-    let before : take (length front + 1) whole ≡ front ++ 39 ∷ [] =
-    sym (ap (λ n. take n whole) seam) ∙ sym (ap (take (length (front ++ 39 ∷ []))) parts) ∙ take-append_seam (front ++ 39 ∷ []) cs in
+pub ascii_cons : (b : ℕ) (bs : List ℕ) → b < 128 → IsUtf8 bs → IsUtf8 (b ∷ bs)
+ascii_cons b bs small u = IsUtf8-append (b ∷ []) bs (IsUtf8-from_ascii (b ∷ []) (IsAscii-cons b [] small IsAscii-nil)) u
+
+-- an ASCII byte may become two others
+pub two_for_one : (b d e : ℕ) → b < 128 → d < 128 → e < 128 → (front cs rest : List ℕ) → (IsUtf8 cs → IsUtf8 rest) → IsUtf8 (front ++ b ∷ cs) → IsUtf8 (front ++ d ∷ e ∷ rest)
+two_for_one b d e b_small d_small e_small front cs rest more u =
+    let whole = front ++ b ∷ cs in
+    let here : get_or whole (length front) 0 ≡ b = get_or-append_seam front b cs 0 in
+    let long : length whole ≡ length front + suc (length cs) = length-append front (b ∷ cs) in
+    let seam : length (front ++ b ∷ []) ≡ length front + 1 = length-append front (b ∷ []) in
+    let parts : (front ++ b ∷ []) ++ cs ≡ whole = append_assoc front (b ∷ []) cs in
+    let small : get_or whole (length front) 0 < 128 = omega (arith, here, b_small) in
+    let within : length front < length whole = omega (arith, long) in
+    let before : IsUtf8 front =
+    subst IsUtf8 (take-append_seam front (b ∷ cs)) (IsUtf8-take whole (length front) u (IsCharBoundary-before_ascii whole (length front) within small)) in
     let behind : drop (length front + 1) whole ≡ cs =
-    sym (ap (λ n. drop n whole) seam) ∙ sym (ap (drop (length (front ++ 39 ∷ []))) parts) ∙ drop-append_seam (front ++ 39 ∷ []) cs in
-    let left : IsUtf8 (front ++ 39 ∷ []) = subst IsUtf8 before (IsUtf8-take whole (length front + 1) u at) in
-    let right : IsUtf8 cs = subst IsUtf8 behind (IsUtf8-drop whole (length front + 1) u at) in
-    let one : IsUtf8 (39 ∷ []) = IsUtf8-from_ascii (39 ∷ []) (IsAscii-cons 39 [] (omega arith) IsAscii-nil) in
-    subst IsUtf8 (append_assoc front (39 ∷ []) (39 ∷ doubled cs)) (IsUtf8-append (front ++ 39 ∷ []) (39 ∷ doubled cs) left (IsUtf8-append (39 ∷ []) (doubled cs) one (rest right)))
+    sym (ap (λ n. drop n whole) seam) ∙ sym (ap (drop (length (front ++ b ∷ []))) parts) ∙ drop-append_seam (front ++ b ∷ []) cs in
+    let right : IsUtf8 cs = subst IsUtf8 behind (IsUtf8-drop whole (length front + 1) u (IsCharBoundary-after_ascii whole (length front) u within small)) in
+    IsUtf8-append front (d ∷ e ∷ rest) before (ascii_cons d (e ∷ rest) d_small (ascii_cons e rest e_small (more right)))
 
 doubled_behind : (front bs : List ℕ) → IsUtf8 (front ++ bs) → IsUtf8 (front ++ doubled bs)
 doubled_behind front [] u = u
@@ -44,13 +46,10 @@ doubled_behind front (c ∷ cs) u =
     elim (cases_Bool (c == 39)) [
       | inl quote ↦
           let is : c ≡ 39 = eqb-true c 39 quote in
-          rw quote (doubled_quote front cs (doubled_behind [] cs) (subst (λ d. IsUtf8 (front ++ d ∷ cs)) is u))
+          rw quote (two_for_one 39 39 39 (omega arith) (omega arith) (omega arith) front cs (doubled cs) (doubled_behind [] cs) (subst (λ d. IsUtf8 (front ++ d ∷ cs)) is u))
       | inr other ↦
           rw other (subst IsUtf8 (append_assoc front (c ∷ []) (doubled cs)) (doubled_behind (front ++ c ∷ []) cs (subst IsUtf8 (sym (append_assoc front (c ∷ []) cs)) u)))
     ]
-
-ascii_cons : (b : ℕ) (bs : List ℕ) → b < 128 → IsUtf8 bs → IsUtf8 (b ∷ bs)
-ascii_cons b bs small u = IsUtf8-append (b ∷ []) bs (IsUtf8-from_ascii (b ∷ []) (IsAscii-cons b [] small IsAscii-nil)) u
 
 quoted_utf8 : (bs : List ℕ) → IsUtf8 bs → IsUtf8 (39 ∷ bs ++ 39 ∷ [])
 quoted_utf8 bs u = ascii_cons 39 (bs ++ 39 ∷ []) (omega arith) (IsUtf8-append bs (39 ∷ []) u (ascii_cons 39 [] (omega arith) IsUtf8-nil))

@@ -1,8 +1,11 @@
 //! The texts of replies.
 #![tactic(auto)]
 
+mod escape;
+mod laws;
 mod rows;
 mod text;
 mod utf8;
 
-pub use text::{indented_reply, reply_text};
+pub use laws::shown_rows_are_read_back;
+pub use text::{reply_text, shown_reply};

@@ -5,8 +5,9 @@ ghost use Rattle.std.specs.Fmt.{decimal};
 ghost use Rattle.hex.specs.Hex.{encode_upper};
 ghost use Rattle.sql_value.specs.Refusal.{code_of};
 ghost use Rattle.spec_model.specs.Replies as spec;
+ghost use Rattle.format_reply.specs.Shown.{indented, lines_in, shown_lines};
 
-use crate::rows::rows_with_count;
+use crate::rows::{LineForm, rows_with_count};
 use base_types::{Hash, Memory, Text};
 use sql_types::Reply;
 use sql_value::Refusal;
@@ -41,16 +42,18 @@ fn digest_line(alloc: Global, indent: &str, block: u64, hash: Hash) -> Result<St
     Ok(format!(in alloc; "{indent}digest {block} 0x{digits}\n")?)
 }
 
-/// The lines of a reply, each behind an indent and ended by LF.
+/// The lines of a reply, each behind an indent and ended by LF; those of rows with or without escapes.
 #[tactic(auto, unfolding(spec_model::specs::Replies::reply_lines))]
-fn lines(alloc: Global, indent: &str, reply: &Reply) -> Result<String, Memory>
-    ensures { IfOk result (λ text.
-        string_bytes text ≡ flat_map (λ line. indent.now ++ line ++ 10 ∷ []) (spec.reply_lines reply.now)) }
+fn lines(alloc: Global, indent: &str, escapes: bool, reply: &Reply) -> Result<String, Memory>
+    ensures { IfOk result (λ text. string_bytes text
+        ≡ flat_map (λ line. indent.now ++ line ++ 10 ∷ []) (lines_in escapes reply.now)) }
 {
     match reply {
         Reply::Begun(id) => Ok(format!(in alloc; "{indent}begun {id}\n")?),
         Reply::Changed(count) => Ok(format!(in alloc; "{indent}{count} rows\n")?),
-        Reply::Rows(rows) => rows_with_count(alloc, indent, rows.as_slice()),
+        Reply::Rows(rows) => {
+            rows_with_count(alloc, &LineForm { indent, escapes }, rows.as_slice())
+        }
         Reply::Made => Ok(format!(in alloc; "{indent}made\n")?),
         Reply::Saved => Ok(format!(in alloc; "{indent}saved\n")?),
         Reply::Back => Ok(format!(in alloc; "{indent}back\n")?),
@@ -64,17 +67,17 @@ fn lines(alloc: Global, indent: &str, reply: &Reply) -> Result<String, Memory>
 /// The text of a reply: its lines, each ended by LF. The values of a row are joined by vertical bars, and the
 /// count of the rows stands behind them; a refusal is E with two digits, and E20 names the transaction that
 /// holds the lock. Takes time in proportion to the text, but for a copy while it grows.
-#[tactic(auto, unfolding(spec_model::specs::Replies::reply_text))]
+#[tactic(auto, unfolding(spec_model::specs::Replies::reply_text), using(crate::proofs::Lines::kept_lines))]
 pub fn reply_text(alloc: Global, reply: &Reply) -> Result<Text, Memory>
     ensures { IfOk result (λ text. text ≡ spec.reply_text reply.now) }
 {
-    Ok(Text::from_string(lines(alloc, "", reply)?))
+    Ok(Text::from_string(lines(alloc, "", false, reply)?))
 }
 
-/// The lines of a reply, each behind two blanks, as a transcript has them. Costs what `reply_text` does.
-pub fn indented_reply(alloc: Global, reply: &Reply) -> Result<String, Memory>
-    ensures { IfOk result (λ text.
-        string_bytes text ≡ flat_map (λ line. codes "  " ++ line ++ 10 ∷ []) (spec.reply_lines reply.now)) }
+/// The lines of a reply as transcripts and answers show them, each behind two blanks: those of rows with LF, CR and `\`
+/// as `\n`, `\r` and `\\`, so that each row has one line. Costs what `reply_text` does.
+pub fn shown_reply(alloc: Global, reply: &Reply) -> Result<String, Memory>
+    ensures { IfOk result (λ text. string_bytes text ≡ flat_map indented (shown_lines reply.now)) }
 {
-    lines(alloc, "  ", reply)
+    lines(alloc, "  ", true, reply)
 }

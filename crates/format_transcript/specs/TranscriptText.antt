@@ -1,12 +1,8 @@
 -- The text of a transcript.
 use Rattle.std.specs.Prelude.{ℕ, List, [], ◌∷◌, ◌++◌, codes, flat_map, Option, Some, None}
 use Rattle.std.specs.Fmt.{decimal}
-use Rattle.spec_model.specs.Replies.{reply_lines}
 use Rattle.spec_history.specs.Transcripts.{EndLine, committed_at, ended_after, Entry, statement, end_of_session, Transcript}
-
--- behind two blanks, and ended by LF
-abbrev pub indented : List ℕ → List ℕ
-indented line = codes "  " ++ line ++ 10 ∷ []
+use Rattle.format_reply.specs.Shown.{indented, shown_lines}
 
 abbrev pub end_line : EndLine → List ℕ
 end_line (committed_at id place) = codes "committed " ++ decimal id ++ codes " at " ++ decimal place
@@ -16,10 +12,10 @@ abbrev pub end_lines : Option EndLine → List (List ℕ)
 end_lines None = []
 end_lines (Some end) = end_line end ∷ []
 
--- the session and its statement, then the lines of the reply, then the end line, if there is one
+-- the session and its statement, then the lines of the reply as they are shown, then the end line, if there is one
 abbrev pub entry_text : List ℕ → Entry → List ℕ
 entry_text session (statement text reply end) =
-    (session ++ codes ": " ++ text ++ 10 ∷ []) ++ flat_map indented (reply_lines reply ++ end_lines end)
+    (session ++ codes ": " ++ text ++ 10 ∷ []) ++ flat_map indented (shown_lines reply ++ end_lines end)
 entry_text session (end_of_session end) = (session ++ codes ": (end)" ++ 10 ∷ []) ++ indented (end_line end)
 
 unfoldable pub transcript_text : Transcript → List ℕ

@@ -3,7 +3,8 @@
 ghost use Rattle.std.specs.Prelude.{◌≡◌, ◌++◌, OnOk, string_bytes};
 ghost use Rattle.spec_history.specs.EndSeen.{end_seen};
 ghost use Rattle.spec_history.specs.Transcripts.{committed_at, ended_after};
-ghost use Rattle.format_transcript.specs.TranscriptText.{end_line, indented};
+ghost use Rattle.format_reply.specs.Shown.{indented};
+ghost use Rattle.format_transcript.specs.TranscriptText.{end_line};
 
 use base_types::{Memory, TxId};
 use sql_types::EndLine;

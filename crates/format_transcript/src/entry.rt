@@ -7,7 +7,7 @@ ghost use Rattle.format_transcript.specs.TranscriptText.{entry_text, end_text};
 
 use crate::end_line::push_line;
 use base_types::Memory;
-use format_reply::indented_reply;
+use format_reply::shown_reply;
 use sql_types::{EndLine, Reply};
 use std::alloc::Global;
 
@@ -34,13 +34,13 @@ fn push_answer(
         ++ entry_text session.now (statement text.now reply.now None)) }
 {
     write!(transcript, "{session}: {text}\n")?;
-    let lines = indented_reply(alloc, reply)?;
+    let lines = shown_reply(alloc, reply)?;
     transcript.push_str(lines.as_str())?;
     Ok(())
 }
 
 /// Appends the entry of a statement: the session and the statement, then the lines of the reply, then the end
-/// line, if there is one. After an error nothing is said of the text. Costs what `indented_reply` does.
+/// line, if there is one. After an error nothing is said of the text. Costs what `shown_reply` does.
 #[tactic(auto, using(crate::proofs::Entries::with_end))]
 pub fn push_statement(
     alloc: Global,

@@ -20,5 +20,7 @@ pub returns-in-Rows : goal.returns-in-Rows
 unfolding reply_lines
 returns-in-Rows c =
     let indent = c.args.indent.now in
-    rw (c.in-Rows.is, counted indent c.in-Rows.rows (count_line (length c.in-Rows.rows)))
-    (subst (λ rows. IfOk c.rows_with_count.result (λ text. string_bytes text ≡ lines_of indent rows ++ (indent ++ count_line (length rows) ++ 10 ∷ []))) c.as_slice.ensures c.rows_with_count.ensures)
+    let escapes = c.args.escapes in
+    let rows = c.in-Rows.rows in
+    rw (c.in-Rows.is, counted indent escapes rows (count_line (length rows)))
+    (subst (λ rows. IfOk c.rows_with_count.result (λ text. string_bytes text ≡ lines_of indent escapes rows ++ (indent ++ count_line (length rows) ++ 10 ∷ []))) c.as_slice.ensures c.rows_with_count.ensures)
