@@ -73,8 +73,8 @@ pub fn images_tell_earlier_databases()
 }
 
 /// After the first `n` transactions a table is told by its own row that counts among theirs: its names, its kind and
-/// whether it was dropped are those of this row, not those of the image's definition. So images whose definitions differ
-/// in these alone tell the same database. The number in the row of a table tells its kind, dropped or not.
+/// whether it was dropped are those of this row, not those of the image's definition. So images whose definitions
+/// differ in these alone tell the same database. The number in the row of a table tells its kind, dropped or not.
 pub fn tables_are_told_by_their_rows()
     ensures kind { (first second : List Row) (def : TableDef) (row : Row)
         → last_row 0 (pos def.id) (about (pos def.id) first) ≡ Some row

@@ -16,8 +16,8 @@ pub fn altered_tables_are_told_as_they_were()
     ensures dropped_table { told 6 ≡ were 6 }
 {}
 
-/// A third transaction gives a table the other kind by a row, and the image's definition has it too. After the first two
-/// the table is told as it was; after all three it has the other kind.
+/// A third transaction gives a table the other kind by a row, and the image's definition has it too. After the first
+/// two the table is told as it was; after all three it has the other kind.
 pub fn later_kinds_are_of_later_tables()
     ensures created { told_of_changed 1 ≡ were 1 }
     ensures inserted { told_of_changed 2 ≡ were 2 }
