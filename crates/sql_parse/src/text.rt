@@ -30,7 +30,11 @@ fn piece<'a>(text: &'a str, token: &Token) -> Piece<'a>
     }
 }
 
-fn pieces<'a>(alloc: Global, text: &'a str, tokens: &[Token]) -> Result<Items<Piece<'a>>, Memory>
+pub(crate) fn pieces<'a>(
+    alloc: Global,
+    text: &'a str,
+    tokens: &[Token],
+) -> Result<Items<Piece<'a>>, Memory>
     requires { All (IsSpan text.now) tokens.now }
     ensures { IfOk result (λ v. syms v ≡ map (sym_of text.now) tokens.now) }
 {
