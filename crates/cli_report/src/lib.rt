@@ -17,6 +17,6 @@ pub use bad_line::{BadLine, InputForm, explain_line};
 pub use progress::with_progress;
 pub use section_watch::SectionWatch;
 pub use statement_place::{StatementPlace, place_of_statement};
-pub use transcript_watch::{FirstRefused, TranscriptWatch};
+pub use transcript_watch::{RefusedEntry, TranscriptWatch};
 pub use watched_sink::WatchedSink;
 pub use watched_source::WatchedSource;

@@ -8,6 +8,8 @@ use std::fmt;
 pub struct StatementPlace<'a> {
     line: u64,
     session: &'a str,
+    /// The statement itself.
+    pub text: &'a str,
 }
 
 fn is_skipped(text: &str) -> bool {
@@ -52,9 +54,11 @@ fn lines_to(input: &str, entry: u64) -> Option<usize> {
 fn place_in_sections<'a>(input: &'a str, entry: u64) -> Option<StatementPlace<'a>> {
     let lines = lines_to(input, entry)?;
     let session = input.split('\n').take(lines).filter_map(head_of).last()?;
+    let text = input.split('\n').nth(lines.saturating_sub(1))?;
     Some(StatementPlace {
         line: lines as u64,
         session,
+        text: text.trim_ascii(),
     })
 }
 
@@ -70,8 +74,12 @@ fn place_in_lines<'a>(input: &'a str, entry: u64) -> Option<StatementPlace<'a>> 
         }
         entries = entries.saturating_add(1);
         if entries >= entry {
-            let (session, _) = text.split_once(':')?;
-            return Some(StatementPlace { line, session });
+            let (session, text) = text.split_once(':')?;
+            return Some(StatementPlace {
+                line,
+                session,
+                text: text.trim_ascii_start(),
+            });
         }
     }
     None

@@ -3,9 +3,12 @@
 /// As many first bytes of a line are looked at, so that a session's name and what stands for its end are among them.
 const HEAD: usize = 64;
 
-/// The first of the statements that were refused.
+/// As many refused statements are kept.
+const KEPT: usize = 10;
+
+/// A statement that was refused.
 #[derive(Clone, Copy)]
-pub struct FirstRefused {
+pub struct RefusedEntry {
     /// The number of its entry among those of statements, from 1.
     pub entry: u64,
     /// The number of its code.
@@ -22,8 +25,9 @@ pub struct TranscriptWatch {
     entries: u64,
     /// Whether the entry looks as if it were that of a session's end.
     is_end: bool,
+    /// The first of the statements that were refused, and how many there are.
+    kept: [RefusedEntry; KEPT],
     refused: u64,
-    first: Option<FirstRefused>,
     committed: u64,
     digests: u64,
 }
@@ -59,8 +63,8 @@ impl TranscriptWatch {
             length: 0,
             entries: 0,
             is_end: false,
+            kept: [RefusedEntry { entry: 0, code: 0 }; KEPT],
             refused: 0,
-            first: None,
             committed: 0,
             digests: 0,
         }
@@ -71,9 +75,9 @@ impl TranscriptWatch {
         self.refused
     }
 
-    /// The first of them.
-    pub fn first(&self) -> Option<FirstRefused> {
-        self.first
+    /// The first of them, ten at most.
+    pub fn first_refused(&self) -> &[RefusedEntry] {
+        &self.kept[..(self.refused as usize).min(KEPT)]
     }
 
     /// How many transactions were committed.
@@ -140,12 +144,12 @@ impl TranscriptWatch {
             self.is_end = false;
             self.entries = self.entries.saturating_add(1);
         }
-        self.refused = self.refused.saturating_add(1);
-        if self.first.is_none() {
-            self.first = Some(FirstRefused {
+        if self.refused < KEPT as u64 {
+            self.kept[self.refused as usize] = RefusedEntry {
                 entry: self.entries,
                 code,
-            });
+            };
         }
+        self.refused = self.refused.saturating_add(1);
     }
 }

@@ -4,12 +4,18 @@
 use crate::bad_file::{HEAD, explain_file};
 use base_io::FolderVault;
 use cli_commands::{Coverage, INPUT_LIMIT, Status, coverage_text};
-use cli_report::{InputForm, SectionWatch, TranscriptWatch, explain_line, place_of_statement};
+use cli_report::{
+    InputForm, SectionWatch, StatementPlace, TranscriptWatch, explain_line, place_of_statement,
+};
 use cli_words::{OVERVIEW, name_read, read_command, refused_word, usage_of};
+use sql_parse::stop_of;
 use std::alloc::Global;
 use std::fmt::Display;
 use std::io;
 use std::rt::Files;
+
+/// The code of a text that is no statement.
+const NO_STATEMENT: u8 = 1;
 
 /// What the outside tells of a call after its end.
 #[derive(Drop)]
@@ -138,27 +144,64 @@ fn tell_words(rt: &impl Eprint, words: &[String]) -> io::Result<()> {
     Ok(())
 }
 
-/// How many statements were refused, and which was the first.
+/// The place of the statement of an entry; none where memory didn't do for the input.
+fn place_of_entry<'a, R: Files + AllocGlobal + Drop>(
+    words: &[String],
+    outside: &Outside<'a, R>,
+    entry: u64,
+) -> Option<StatementPlace<'a>> {
+    place_of_statement(input_form(words), outside.input?, entry)
+}
+
+/// A statement that was refused, its code and, where it is no statement, at which word reading stopped.
+fn tell_entry(
+    rt: &(impl Eprint + AllocGlobal),
+    place: StatementPlace<'_>,
+    code: u8,
+) -> io::Result<()> {
+    if code != NO_STATEMENT {
+        return eprintln!(rt; "ledgerd: {place}: E{code:02}");
+    }
+    match stop_of(rt.alloc(), place.text) {
+        Ok(Some(stop)) if stop.word.is_empty() => {
+            eprintln!(rt;
+                "ledgerd: {place}: E{code:02} at its end, column {}",
+                stop.column
+            )
+        }
+        Ok(Some(stop)) => {
+            eprintln!(rt;
+                "ledgerd: {place}: E{code:02} at '{}', column {}",
+                stop.word, stop.column
+            )
+        }
+        _ => eprintln!(rt; "ledgerd: {place}: E{code:02}"),
+    }
+}
+
+/// The first of the statements that were refused, each with its place, and how many there are.
 fn tell_refused<R: Files + AllocGlobal + Drop>(
-    rt: &impl Eprint,
+    rt: &(impl Eprint + AllocGlobal),
     words: &[String],
     outside: &Outside<'_, R>,
 ) -> io::Result<()> {
-    let Some(first) = outside.transcript.first() else {
+    let refused = outside.transcript.refused();
+    let kept = outside.transcript.first_refused();
+    for entry in kept {
+        if let Some(place) = place_of_entry(words, outside, entry.entry) {
+            tell_entry(rt, place, entry.code)?;
+        }
+    }
+    let [first, ..] = kept else {
         return Ok(());
     };
-    let refused = outside.transcript.refused();
     let were = if refused == 1 {
         "statement was"
     } else {
         "statements were"
     };
     let code = first.code;
-    let place = match outside.input {
-        Some(input) => place_of_statement(input_form(words), input, first.entry),
-        None => None,
-    };
-    match place {
+    match place_of_entry(words, outside, first.entry) {
         Some(place) => {
             eprintln!(rt; "ledgerd: {refused} {were} refused, the first at {place}: E{code:02}")
         }
@@ -168,7 +211,7 @@ fn tell_refused<R: Files + AllocGlobal + Drop>(
 
 /// What the transcript of `step` and `run` tells: which statements were refused, and that no digest was issued.
 fn tell_transcript<R: Files + AllocGlobal + Drop>(
-    rt: &impl Eprint,
+    rt: &(impl Eprint + AllocGlobal),
     words: &[String],
     outside: &Outside<'_, R>,
 ) -> io::Result<()> {
