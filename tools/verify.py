@@ -1,7 +1,7 @@
 #!/usr/bin/env python3
 """Judges an image and digests as `ledgerd verify` does, by docs/reference/formats.md and verdicts.md alone.
 
-    tools/verify.py IMAGE [DIGESTS] [--coverage]
+    tools/verify.py [--coverage] IMAGE [DIGESTS]
 
 Writes the line of the page on verdicts, and ends with the exit status of `ledgerd verify`. What the digests cover stands
 on a second line with `--coverage`, and otherwise on standard error.
@@ -454,11 +454,11 @@ def read_held(path: str) -> list[Digest]:
 
 
 def main(words: list[str]) -> int:
-    shows = words[-1:] == ["--coverage"]
-    names = words[:-1] if shows else words
+    shows = words[:1] == ["--coverage"]
+    names = words[1:] if shows else words
     try:
         if len(names) not in (1, 2):
-            raise Ended(2, "verify.py IMAGE [DIGESTS] [--coverage]")
+            raise Ended(2, "verify.py [--coverage] IMAGE [DIGESTS]")
         image = read_file(1, names[0], MAX_IMAGE)
         digests = read_held(names[1]) if len(names) == 2 else []
     except Ended as ended:

@@ -55,7 +55,8 @@ IsImageJudged h held i (Accepted coverage) = (image_verdict h i held ≡ Yes) ×
 IsImageJudged h held i (Refused verdict) = (verdict ≡ Yes → ⊥) × (verdict ≡ image_verdict h i held)
 
 -- the bytes are those of an image that is accepted with the digests, which cover this of it
-pub record IsCovered (h : List ℕ → List ℕ) (held : List HeldDigest) (bytes : List ℕ) (coverage : Coverage) : Type 0 where
+pub record IsCovered (h : List ℕ → List ℕ) (held : List HeldDigest) (bytes : List ℕ) (coverage : Coverage)
+    : Type 0 where
   pub i : Image
   pub accepted : IsAccepted h held bytes i
   pub verdict : verdict_of h held bytes ≡ Yes

@@ -39,8 +39,8 @@ pub record IsAcceptedAmong (h : List ℕ → List ℕ) (r : AnyReceipt) (held : 
   pub first : first_of_block (last_block (records_of r)) held ≡ Some d
   pub accepted : IsAcceptedBy h r d held
 
--- the records of the chain are in order, and it joins the first digest of its last block, but it doesn't join some other:
--- this is the least block of those
+-- the records of the chain are in order, and it joins the first digest of its last block, but it doesn't join some
+-- other: this is the least block of those
 pub record LeavesOutAmong (h : List ℕ → List ℕ) (c : Chain) (held : List HeldDigest) (block : ℕ) : Type 0 where
   pub d : HeldDigest
   pub first : first_of_block (last_block c.records) held ≡ Some d

@@ -21,10 +21,10 @@ use Rattle.audit_any_receipt.specs.Among.{IsAcceptedBy}
 abbrev pub HasItsEntry : Image → Receipt → Type 0
 HasItsEntry i r = slice_get (part_at i.blocks i.entries r.entry.block) r.entry.ordinal ≡ Some r.entry
 
--- the image has the entry at its place, and besides the leaves are those of all events of the transaction in the table,
--- or the leaf is that of one of these; of a chain each digest that is held holds with the image. Or two different strings
--- of bytes have one hash, of which the first is hashed where the receipt is checked and the second where the image is
--- verified.
+-- the image has the entry at its place, and besides the leaves are those of all events of the transaction in the
+-- table, or the leaf is that of one of these; of a chain each digest that is held holds with the image. Or two different
+-- strings of bytes have one hash, of which the first is hashed where the receipt is checked and the second where the
+-- image is verified.
 abbrev pub ShowsIn : (h : List ℕ → List ℕ) (r : AnyReceipt) (d : HeldDigest) (held : List HeldDigest)
     → IsAcceptedBy h r d held → Image → Type 0
 ShowsIn h (kinds.Entry r) d held x i =

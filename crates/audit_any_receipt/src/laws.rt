@@ -14,8 +14,8 @@ pub fn equal_bytes_are_of_equal_receipts_of_any_kind()
 
 /// A receipt that is accepted with a digest can't be contradicted by any image that `verify` accepts with this digest,
 /// alone or among others: the image has the receipt's entry at its place, and its events; of a chain each digest that
-/// is held holds with the image. Or two different byte strings have one hash, of which one is hashed where the receipt is
-/// checked and the other where the image is verified.
+/// is held holds with the image. Or two different byte strings have one hash, of which one is hashed where the receipt
+/// is checked and the other where the image is verified.
 pub fn accepted_receipts_are_never_contradicted()
     ensures { (h : List ℕ → List ℕ) (r : AnyReceipt) (d : HeldDigest) (held : List HeldDigest)
         → ((bytes : List ℕ) → length (h bytes) ≡ 32) → IsAny r → (x : IsAcceptedBy h r d held)

@@ -66,4 +66,5 @@ module _ (h : List ℕ → List ℕ) where
   abbrev pub least_unjoined : List ℕ → ℕ → List BlockRecord → Option ℕ → List HeldDigest → Option ℕ
   least_unjoined database from records least [] = least
   least_unjoined database from records least (d ∷ ds) =
-      least_unjoined database from records (if is_joined database from records d then least else Some (lesser least d.block)) ds
+      least_unjoined database from records
+      (if is_joined database from records d then least else Some (lesser least d.block)) ds

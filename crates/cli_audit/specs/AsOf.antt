@@ -87,7 +87,8 @@ LacksAnswers ended h image n digests input names source vault =
 abbrev pub IsAnsweredAs : Status → (List ℕ → List ℕ) → List ℕ → ℕ → Option (List ℕ) → Option (List ℕ) → Option Names
     → Type 0
 IsAnsweredAs ended h image n digests input names =
-    (text : List ℕ) × (coverage : Coverage) × (done_with digests coverage ≡ ended) × StandAndCame image digests names input
+    (text : List ℕ) × (coverage : Coverage) × (done_with digests coverage ≡ ended)
+    × StandAndCame image digests names input
     (λ bytes file came. AreToldSo file came (λ held texts. IsWritten h held bytes n texts text coverage))
 
 -- Why a status comes. The causes exclude one another but for those of faults and want of memory, so each comes

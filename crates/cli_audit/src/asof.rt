@@ -187,8 +187,8 @@ pub fn answer_as_of<H: Hash32, S: Source, K: Sink, V: Vault>(
         (Rises (V.faults vault.old) (V.faults vault.new))
         (Rises (K.faults sink.old) (K.faults sink.new) ⊎ Rises (K.stalls sink.old) (K.stalls sink.new)) }
     ensures answered { SaidOrIdle result.status
-        (SaysAnswers result.status (H.digest h) image.now n (option_copied digests.entry) result.covers (S.left source.old)
-        (V.names vault.old) (K.taken sink.old) (K.taken sink.new)) (sink.new ≡ sink.old) }
+        (SaysAnswers result.status (H.digest h) image.now n (option_copied digests.entry) result.covers
+        (S.left source.old) (V.names vault.old) (K.taken sink.old) (K.taken sink.new)) (sink.new ≡ sink.old) }
     ensures same { V.names vault.new ≡ V.names vault.old }
     ensures read { IfSome (S.left source.old) (λ input. HasReadBehind result.status input (S.left source.new)) }
     ensures reads { Since (S.history source.old) (S.history source.new) (AreReadsBehind result.status) }

@@ -6,7 +6,8 @@ ghost use Rattle.base_io.specs.History.{Since};
 ghost use Rattle.cli_audit.specs.Answer.{Unfailed};
 ghost use Rattle.cli_audit.specs.Calls.{AreGets, Gave, AreWrites};
 ghost use Rattle.cli_audit.specs.Extract.{AreExhibits, LacksExhibits, IsFoundWith, IsFoundOn, IsFound};
-ghost use Rattle.cli_audit.specs.Extract.{LacksFinding, ExtractCause, Extracts, collision_text, finding_note, finding_status, finding_text};
+ghost use Rattle.cli_audit.specs.Extract.{LacksFinding, ExtractCause, Extracts};
+ghost use Rattle.cli_audit.specs.Extract.{collision_text, finding_note, finding_status, finding_text};
 ghost use Rattle.cli_audit.specs.Subject.{done_by};
 ghost use Rattle.cli_audit.specs.Verify.{AreRefused, SaidOrIdle};
 

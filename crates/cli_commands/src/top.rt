@@ -79,9 +79,9 @@ use std::thread::Threads;
 ///
 /// `verify IMAGE DIGESTS` reads what stands under the two names, and writes the verdict on the image with the
 /// digests: `Yes`, and the status is `Done`, or `No` with the first invariant that fails and its least place,
-/// and the status is `No`. Where the list has no digest the status is `NoDigestHeld` in the place of `Done`, as it is of
-/// `extract` and of `asof --digests`. `verify IMAGE` asks for no digest: it looks at the image alone. It puts nothing and
-/// reads no input.
+/// and the status is `No`. Where the list has no digest the status is `NoDigestHeld` in the place of `Done`, as it is
+/// of `extract` and of `asof --digests`. `verify IMAGE` asks for no digest: it looks at the image alone. It puts nothing
+/// and reads no input.
 ///
 /// `replay JOURNAL --save NAME` reads what stands under the name of a journal, as `step` and `run` save
 /// one, and runs its statements again in their order, one transaction after another. Where each is answered
@@ -205,8 +205,8 @@ pub fn ledgerd<S: Source, K: Sink, V: Vault, C: Clock, G: Gate, R: Threads + Wai
     ensures read_sections { OfRun (command_of (map string_bytes words.now))
         (λ save settings. IfSome (S.left source.old) (λ input. HasRead result.status input (S.left source.new))) }
     ensures ran_all { OfRun (command_of (map string_bytes words.now)) (λ save settings. RunOutcomeOrIdle result.status
-        (RanAndSaved result.status section_form (SectionsComeTo sha256 settings (C.says clock.now)) save (S.left source.old)
-        (V.names vault.old) (V.names vault.new) (K.taken sink.old) (K.taken sink.new))
+        (RanAndSaved result.status section_form (SectionsComeTo sha256 settings (C.says clock.now)) save
+        (S.left source.old) (V.names vault.old) (V.names vault.new) (K.taken sink.old) (K.taken sink.new))
         ((vault.new ≡ vault.old) × (sink.new ≡ sink.old))) }
 
     // `step` and `run` that go on from the journal under a name: the same behind the past that this journal is. What
@@ -315,9 +315,11 @@ pub fn ledgerd<S: Source, K: Sink, V: Vault, C: Clock, G: Gate, R: Threads + Wai
     ensures reads_sections { OfRun (command_of (map string_bytes words.now))
         (λ save settings. Since (S.history source.old) (S.history source.new) (AreReads result.status)) }
     ensures reads_behind { OfStepFrom (command_of (map string_bytes words.now))
-        (λ save journal settings. Since (S.history source.old) (S.history source.new) (AreReadsBehindPast result.status)) }
+        (λ save journal settings. Since (S.history source.old) (S.history source.new)
+        (AreReadsBehindPast result.status)) }
     ensures reads_sections_behind { OfRunFrom (command_of (map string_bytes words.now))
-        (λ save journal settings. Since (S.history source.old) (S.history source.new) (AreReadsBehindPast result.status)) }
+        (λ save journal settings. Since (S.history source.old) (S.history source.new)
+        (AreReadsBehindPast result.status)) }
     ensures reads_texts { OfAsOf (command_of (map string_bytes words.now))
         (λ image n digests. Since (S.history source.old) (S.history source.new) (AreReadsBehind result.status)) }
     ensures calls { Since (V.history vault.old) (V.history vault.new)
