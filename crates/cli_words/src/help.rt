@@ -22,55 +22,57 @@ pub const VERSION: &str = "ledgerd 0.1.0";
 pub const LOGIC: &str = "dac8208d650f15bf";
 
 /// Help on all commands.
-pub const HELP: &str = "ledgerd runs statements over ledger tables in memory, and verifies images of
-them.
+pub const HELP: &str =
+    "ledgerd runs SQL statements over ledger tables in memory, saves the result to
+files, and verifies such files.
 
   ledgerd [-C FOLDER] [--quiet] COMMAND
-                                does one of these, with what it is given:
+                                runs one of these commands:
   ledgerd step --save NAME [--from JOURNAL]
-                                runs statements of sessions, one after another,
-                                and saves what is left; behind the transactions
-                                of an earlier journal, where one is given
+                                runs the input's statements one at a time and
+                                saves the result; with --from, continues from an
+                                earlier journal
   ledgerd run --save NAME [--from JOURNAL]
-                                runs sessions side by side, and saves the same
-  ledgerd verify IMAGE DIGESTS  says whether an image and digests hold together
+                                runs sessions in parallel, and saves the same
+  ledgerd verify IMAGE DIGESTS  checks an image against digests
   ledgerd extract HONEST SUSPECT DIGESTS
-                                says what two images are to each other
+                                compares two images: one history, or proof of a
+                                forgery
   ledgerd replay JOURNAL --save NAME
                                 runs a journal again and saves its image
   ledgerd upgrade IMAGE --save NAME
                                 saves an image in the newest version
   ledgerd receipt IMAGE DIGESTS TX --save NAME
-                                makes the receipt of a transaction of an image
+                                makes the receipt of one transaction
   ledgerd join IMAGE DIGESTS --save NAME
                                 joins digests by the blocks between them
-  ledgerd check RECEIPT DIGESTS says whether a receipt holds with digests
+  ledgerd check RECEIPT DIGESTS checks a receipt or a chain, without the image
   ledgerd asof IMAGE N [--digests DIGESTS]
-                                answers SELECTs over an image behind its first
-                                N transactions
+                                runs SELECTs on an image as of its first N
+                                transactions
   ledgerd gen COUNT             runs and verifies a workload, to measure with
-  ledgerd COMMAND --help        says more of one of these, as `ledgerd help
+  ledgerd COMMAND --help        says more about a command, as `ledgerd help
                                 COMMAND` and `ledgerd COMMAND -h` do
   ledgerd --help, -h or help    prints this text
   ledgerd --version or -V       prints the version
 
-On a terminal a command that takes long says for how many seconds it has been at
-work; with `--quiet` before the command it doesn't. With `-C FOLDER` before the
-command the files are those of FOLDER. Both stand in either order, each once.
+With `-C FOLDER` the files are those of FOLDER, otherwise those of the current
+folder. On a terminal, long commands show the seconds elapsed; `--quiet` turns
+this off. Both go before the command, in either order, each at most once.
 
-Names are those of files in one folder, the current one where no other is given:
-letters, digits, `_`, `-` or `.`, the first a letter or a digit; 1 to 100 of
-them in NAME, which files are saved under, and 1 to 128 in the others. Files are
-written with mode 0640, less what the umask forbids. An option and its value are
-two words, or one: `--save NAME` or `--save=NAME`.
+A file is named by its name alone: letters, digits, `_`, `-` or `.`, the first a
+letter or a digit; 1 to 100 of them in NAME, which files are saved under, and 1
+to 128 in the others. Files are written with mode 0640, less what the umask
+forbids. An option and its value are two words, or one: `--save NAME` or
+`--save=NAME`.
 
 Limits: 4 MiB and 64 sessions for an input, 256 MiB for an image or a journal,
 32 MiB for digests, 16 MiB for a receipt.
 
-It ends with one of these statuses, and from 2 on standard error says more:
+Exit statuses; from 2 on, standard error says more:
    0  the work is done; `verify` and `check` said Yes, `extract` said Same
    1  `verify`, `receipt`, `join`, `check` or `asof` said No; `extract` said it
-      of an image, or shows a collision
+      about an image, or found a collision
    2  usage error                        3  a limit was exceeded
    4  reading the input failed           5  writing the output failed
    6  a file can't be read or written    7  no such file or folder
@@ -79,8 +81,9 @@ It ends with one of these statuses, and from 2 on standard error says more:
   12  out of memory                     14  no such entry
   15  bad receipt                       16  not so many transactions
 
-Pages, in docs/ of the repository: SQL.md (input, statements and codes),
-AUDIT.md (commands, answers and statuses), FORMATS.md (the bytes of the files).
+Pages, in docs/ of the repository: tutorial.md (the first steps), and in
+docs/reference/: sql.md (input and statements), codes.md, statuses.md,
+verdicts.md (what `verify` says), formats.md (the bytes of the files).
 
 Example, from the top of the repository:
   ./ledgerd step --save balance < examples/balance.txt
@@ -92,32 +95,31 @@ pub const STEP_HELP: &str =
         [--block-size N] [--clock T]
 
 Runs the statements of standard input, `session: statement` on each line, one
-after another, and prints what each was answered. It writes the files
-NAME-m.img for each number m that a SAVE IMAGE answered, the image of the first
-m items of the journal; NAME.img, the image of the whole; NAME.digests, the
-digests; and NAME.journal, what was committed, with the replies. What stands
-under these names is replaced.
-J is an earlier journal, which is run again first: the database goes on from its
-end, and NAME.journal begins with its items. The name of the database is the
-journal's, so that D isn't given beside J.
-N is the number of a block's transactions, 1 to 100,000; 100,000 where it isn't
-said. T is the moment of all that is done, in ticks of 100 nanoseconds since
-1970; the clock says it where it isn't given. D is the name of the database, 1
-to 64 letters, digits, `_`, `-` or `.`; LedgerDB where it isn't said.
+after another, and prints each with its answer. It writes NAME.img, the image of
+the database; NAME.journal, what was committed, with the replies; NAME.digests,
+the digests; and NAME-m.img for each number m that a SAVE IMAGE answered, the
+image of the first m items of the journal. Files of these names are replaced.
+With --from it runs the journal J again first and continues from its end:
+NAME.journal begins with the items of J. The database has the name that it has
+in J.
+N is the number of transactions in a block, 1 to 100,000; the default is
+100,000. T is the time of everything that is done, in ticks of 100 nanoseconds
+since 1970; without it the clock is asked. D is the name of the database, 1 to
+64 letters, digits, `_`, `-` or `.`; the default is LedgerDB.
 
-A refused statement is answered with a code; docs/SQL.md has an example of each
-and its cure:
-  E01 no statement                    E02 no such table
+A statement that fails is answered with a code, and doesn't end its transaction;
+docs/reference/codes.md has an example of each code and its cure:
+  E01 syntax error                    E02 no such table
   E03 a name is taken or reserved     E04 no such column
-  E05 values that don't fit together  E06 NULL where none may be
-  E07 the key is there already        E08 a number out of range
+  E05 types that don't fit            E06 NULL where it isn't allowed
+  E07 the key exists already          E08 a number out of range
   E09 a text or bytes too long        E10 the table is append-only
-  E11 the table may only be read      E12 a key can't be changed
+  E11 the table is read-only          E12 a key can't be changed
   E13 outside a transaction           E14 inside a transaction already
   E15 no such savepoint               E16 a limit is passed
   E17 not inside a transaction        E18 more or fewer values than columns
-  E19 nothing is committed            E20 locked by the transaction behind it
-  E30 no memory
+  E19 nothing is committed            E20 locked; the holder's id follows
+  E30 out of memory
 
 Example, from the top of the repository:
   ./ledgerd step --save shop --clock 0 < examples/shop.txt
@@ -127,29 +129,26 @@ Example, from the top of the repository:
 pub const RUN_HELP: &str = "ledgerd [-C FOLDER] [--quiet] run --save NAME [--from J | --database D]
         [--block-size N] [--clock T]
 
-Runs the sections of standard input and prints what their statements were
-answered. The lines behind `-- setup`, the first section, are run first, in
-their order; then those behind each `-- session S`, each of these sessions in a
-thread of its own beside the others, while another thread closes blocks. A
-session `-- snapshot S` keeps an image, over which the SELECTs behind that line
-are answered, as by `asof`. Any other line that begins with `--` is a comment.
-It writes the files that `step` writes: NAME-m.img for each number m that a SAVE
-IMAGE answered, NAME.img, NAME.digests and NAME.journal. J, N, T and D are those
-of `step`.
+Runs the sections of standard input, and prints each statement with its answer.
+The `-- setup` section, the first, runs first. Then all `-- session S` sections
+run in parallel, one thread each, while another thread closes blocks. A section
+`-- snapshot S` saves an image, and its SELECTs are answered from that image, as
+by `asof`. Any other line that begins with `--` is a comment.
+It writes the files that `step` writes. J, N, T and D are those of `step`.
 
-A refused statement is answered with a code; docs/SQL.md has an example of each
-and its cure:
-  E01 no statement                    E02 no such table
+A statement that fails is answered with a code, and doesn't end its transaction;
+docs/reference/codes.md has an example of each code and its cure:
+  E01 syntax error                    E02 no such table
   E03 a name is taken or reserved     E04 no such column
-  E05 values that don't fit together  E06 NULL where none may be
-  E07 the key is there already        E08 a number out of range
+  E05 types that don't fit            E06 NULL where it isn't allowed
+  E07 the key exists already          E08 a number out of range
   E09 a text or bytes too long        E10 the table is append-only
-  E11 the table may only be read      E12 a key can't be changed
+  E11 the table is read-only          E12 a key can't be changed
   E13 outside a transaction           E14 inside a transaction already
   E15 no such savepoint               E16 a limit is passed
   E17 not inside a transaction        E18 more or fewer values than columns
-  E19 nothing is committed            E20 locked by the transaction behind it
-  E21 no SELECT, of a snapshot        E30 no memory
+  E19 nothing is committed            E20 locked; the holder's id follows
+  E21 not a SELECT (in snapshots)      E30 out of memory
 
 Example, from the top of the repository; it writes seats.img, seats.digests and
 seats.journal:
@@ -159,12 +158,11 @@ seats.journal:
 /// Help on `verify`.
 pub const VERIFY_HELP: &str = "ledgerd [-C FOLDER] [--quiet] verify IMAGE DIGESTS [--workers W]
 
-Prints `Yes` where the image IMAGE and the digests DIGESTS hold together, and
-ends with status 0. Where they don't it prints `No`, the first invariant that
-fails and its place, and ends with status 1; docs/AUDIT.md says what each is.
-It writes no file.
-W is how many threads go through the tables of the image, 1 to 16; 1 where it
-isn't said.
+Checks the image IMAGE against the digests DIGESTS. It prints `Yes` and ends
+with status 0 if the image fits together and has the block of each digest.
+Otherwise it prints `No`, the first condition that fails and its place, and ends
+with status 1; docs/reference/verdicts.md explains each. It writes no file.
+W is how many threads check the tables of the image, 1 to 16; the default is 1.
 
 Example, from the top of the repository:
   ./ledgerd -C examples verify honest.img honest.digests
@@ -174,9 +172,9 @@ Example, from the top of the repository:
 pub const EXTRACT_HELP: &str = "ledgerd [-C FOLDER] [--quiet] extract HONEST SUSPECT DIGESTS
 
 Verifies the images HONEST and SUSPECT with the digests DIGESTS, and prints the
-verdict on the first of them that isn't accepted. Where both are, it prints
-`Same` and ends with status 0 if all that the digests cover is the same in both,
-and else `Collision` and two byte strings with one SHA-256.
+verdict on the first that isn't accepted. If both are, it prints `Same` and ends
+with status 0 if everything that the digests cover is the same in both.
+Otherwise it prints `Collision` and two byte strings with the same SHA-256.
 It writes no file.
 
 Example, from the top of the repository:
@@ -186,12 +184,11 @@ Example, from the top of the repository:
 /// Help on `replay`.
 pub const REPLAY_HELP: &str = "ledgerd [-C FOLDER] [--quiet] replay JOURNAL --save NAME
 
-Runs the journal in the file JOURNAL again, as `step` and `run` save one, and
-prints how many transactions it has. Where each statement is answered as the
-journal keeps it, it writes NAME.img, the journal's image, and NAME.journal, its
-own bytes.
+Runs the journal JOURNAL again, as `step` and `run` save one, and prints how
+many transactions it has. If every statement gives the reply that the journal
+has, it writes NAME.img, the journal's image, and NAME.journal, its own bytes.
 
-Example, from the top of the repository, behind that of `step`:
+Example, from the top of the repository, after that of `step`:
   ./ledgerd replay shop.journal --save again
 ";
 
@@ -200,7 +197,7 @@ pub const UPGRADE_HELP: &str = "ledgerd [-C FOLDER] [--quiet] upgrade IMAGE --sa
 
 Reads the image IMAGE, of version 1 or 2, writes NAME.img, the same image in
 version 2, and prints `upgraded`. It verifies nothing, and `verify` says the
-same of both with any digests. docs/FORMATS.md has the versions.
+same of both with any digests. docs/reference/formats.md has the versions.
 
 Example, from the top of the repository:
   ./ledgerd -C examples upgrade honest.img --save newest
@@ -210,14 +207,14 @@ Example, from the top of the repository:
 pub const RECEIPT_HELP: &str = "ledgerd [-C FOLDER] [--quiet] receipt IMAGE DIGESTS TX
         [--table ID [--event N]] --save NAME
 
-Verifies the image IMAGE with the digests DIGESTS, and prints the verdict where
-it is No. Else it writes NAME.receipt and prints `receipt` with the
-transaction's block and its place there. The receipt shows that the transaction
-with the id TX is one of those that the digest of the greatest block covers;
-`check` says so to whoever holds that digest, without the image.
-With --table it also shows all that the transaction did in the table ID: each
-row version that it started or ended there, and no other. With --event it shows
-the one of these that is the transaction's event N, from 0.
+Verifies the image IMAGE with the digests DIGESTS, and prints the verdict if it
+is No. Otherwise it writes NAME.receipt and prints `receipt`, the transaction's
+block and its place there. The receipt shows that the transaction with the id TX
+is covered by the digest of the greatest block. Anyone with that digest can
+check it with `check`, without the image.
+With --table it also shows everything that the transaction did in the table ID:
+each row version that it started or ended there, and no other. With --event it
+shows only the one with number N in the transaction, from 0.
 TX is a number from 1 on, as `committed` prints it; ID is the table's in
 `SELECT table_id, name FROM sys_ledger_tables`.
 
@@ -228,12 +225,11 @@ Example, from the top of the repository:
 /// Help on `join`.
 pub const JOIN_HELP: &str = "ledgerd [-C FOLDER] [--quiet] join IMAGE DIGESTS --save NAME
 
-Verifies the image IMAGE with the digests DIGESTS, and prints the verdict where
-it is No. Else it writes NAME.chain, the records of the blocks from the least to
-the greatest that a digest is of, and prints `joined` with the numbers of these
-two. Whoever holds the digests sees by `check`, without the image, that the one
-of the greatest block continues the history of each other, so that it alone has
-to be kept.
+Verifies the image IMAGE with the digests DIGESTS, and prints the verdict if it
+is No. Otherwise it writes NAME.chain, the records of all blocks from the least
+to the greatest of the digests, and prints `joined` with the numbers of these
+two. With the chain, `check` shows without the image that the newest digest
+continues the history of each other digest of these blocks.
 
 Example, from the top of the repository:
   ./ledgerd -C examples join honest.img honest.digests --save months
@@ -242,35 +238,34 @@ Example, from the top of the repository:
 /// Help on `check`.
 pub const CHECK_HELP: &str = "ledgerd [-C FOLDER] [--quiet] check RECEIPT DIGESTS
 
-Prints `Yes` where the receipt RECEIPT holds with the first of the digests
-DIGESTS that is of its last block, and ends with status 0: no image that
-verifies with this digest has another transaction at this place, nor, of a
-receipt that `--table` made, other events of it in the table. Else it prints `No
-receipt` and ends with status 1. RECEIPT may also be a chain, as `join` writes
-it: it holds where each of the digests of its blocks is the one of the block's
-record, so that no image that verifies with the last contradicts another.
-It writes no file.
+Checks the receipt RECEIPT against the first of the digests DIGESTS that is of
+its last block. It prints `Yes` and ends with status 0 if it holds: then no
+image that verifies with this digest has another transaction at this place, nor,
+with a receipt made by --table, other changes by it in the table. Otherwise it
+prints `No receipt` and ends with status 1.
+RECEIPT may also be a chain, as `join` writes it. It holds if each of the
+digests of its blocks is that of the block's record. It writes no file.
 
-Example, from the top of the repository, behind that of `receipt`:
+Example, from the top of the repository, after that of `receipt`:
   ./ledgerd -C examples check payment.receipt honest.digests
 ";
 
 /// Help on `asof`.
 pub const ASOF_HELP: &str = "ledgerd [-C FOLDER] [--quiet] asof IMAGE N [--digests DIGESTS]
 
-Answers SELECTs over the database as it was behind the first N transactions of
-the image IMAGE, in ledger order: the N of `committed .. at N`. It reads a text
-from each line of standard input, without those that are empty or begin with
-`--`, and prints each with its answer behind it. Rows, histories, ledger views
-and definitions are those of that moment, whatever came later.
-The image is verified first, with the digests DIGESTS where they are given; a No
-is printed and ends it with status 1. Without digests the answers are what the
-image tells, which nothing ties to the ledger that it claims to be.
-N is 0 to 2^63 - 1; where the image has fewer transactions it ends with status
-16. It writes no file.
+Runs SELECTs on the database as it was after the first N transactions of the
+image IMAGE, in ledger order: the N of `committed .. at N`. It reads a text from
+each line of standard input, skips empty lines and lines that begin with `--`,
+and prints each text with its answer. Rows, histories, ledger views and
+definitions are those of that moment.
+The image is verified first, with the digests DIGESTS if they are given; if that
+fails, the No is printed and the status is 1. Without digests the answers are
+only as trustworthy as the person who gave you the image.
+N is 0 to 2^63 - 1; if the image has fewer transactions the status is 16. It
+writes no file.
 
-A refused text is answered with a code, as `step --help` has them, and
-  E21 a statement that is no SELECT
+A text that fails is answered with a code of `step --help`, or with
+  E21 not a SELECT
 
 Example, from the top of the repository:
   echo 'SELECT * FROM sys_ledger_tables' \\
@@ -280,11 +275,11 @@ Example, from the top of the repository:
 /// Help on `gen`.
 pub const GEN_HELP: &str = "ledgerd [-C FOLDER] [--quiet] gen COUNT
 
-Runs four sessions side by side, each of which inserts COUNT rows into a table
-of its own and changes every tenth; then closes the ledger, issues a digest and
+Runs four sessions in parallel, each of which inserts COUNT rows into a table of
+its own and changes every tenth. Then it closes the ledger, issues a digest and
 verifies the image with it. It prints how many transactions were committed, how
-many rows and rows of histories there are, the sum of the rows' values, and the
-verdict.
+many rows there are, how many versions have ended, the sum of the rows' values,
+and the verdict.
 COUNT is 1 to 10,000. It reads no input and writes no file.
 
 Example, from the top of the repository:
