@@ -34,7 +34,8 @@ files, and verifies such files.
                                 earlier journal
   ledgerd run --save NAME [--from JOURNAL]
                                 runs sessions in parallel, and saves the same
-  ledgerd verify IMAGE DIGESTS  checks an image against digests
+  ledgerd verify IMAGE [DIGESTS]
+                                checks an image against digests, or by itself
   ledgerd extract HONEST SUSPECT DIGESTS
                                 compares two images: one history, or proof of a
                                 forgery
@@ -80,6 +81,7 @@ Exit statuses; from 2 on, standard error says more:
   10  bad input: a line can't be read   11  not an image
   12  out of memory                     14  no such entry
   15  bad receipt                       16  not so many transactions
+  17  no digest is held
 
 Pages, in docs/ of the repository: tutorial.md (the first steps), and in
 docs/reference/: sql.md (input and statements), codes.md, statuses.md,
@@ -156,12 +158,17 @@ seats.journal:
 ";
 
 /// Help on `verify`.
-pub const VERIFY_HELP: &str = "ledgerd [-C FOLDER] [--quiet] verify IMAGE DIGESTS [--workers W]
+pub const VERIFY_HELP: &str = "ledgerd [-C FOLDER] [--quiet] verify [--coverage] IMAGE [DIGESTS]
+        [--workers W]
 
 Checks the image IMAGE against the digests DIGESTS. It prints `Yes` and ends
 with status 0 if the image fits together and has the block of each digest.
 Otherwise it prints `No`, the first condition that fails and its place, and ends
 with status 1; docs/reference/verdicts.md explains each. It writes no file.
+Standard error says how many transactions the digests cover, unless --quiet is
+given. With --coverage that is a second line on standard output.
+Without DIGESTS only the image itself is checked. If DIGESTS has no digest,
+status 17 takes the place of 0.
 W is how many threads check the tables of the image, 1 to 16; the default is 1.
 
 Example, from the top of the repository:
@@ -175,7 +182,7 @@ Verifies the images HONEST and SUSPECT with the digests DIGESTS, and prints the
 verdict on the first that isn't accepted. If both are, it prints `Same` and ends
 with status 0 if everything that the digests cover is the same in both.
 Otherwise it prints `Collision` and two byte strings with the same SHA-256.
-It writes no file.
+If DIGESTS has no digest, status 17 takes the place of 0. It writes no file.
 
 Example, from the top of the repository:
   ./ledgerd -C examples extract honest.img rewritten.img honest.digests
@@ -229,7 +236,7 @@ Verifies the image IMAGE with the digests DIGESTS, and prints the verdict if it
 is No. Otherwise it writes NAME.chain, the records of all blocks from the least
 to the greatest of the digests, and prints `joined` with the numbers of these
 two. With the chain, `check` shows without the image that the newest digest
-continues the history of each other digest of these blocks.
+continues the history of each other, so that only the newest has to be kept.
 
 Example, from the top of the repository:
   ./ledgerd -C examples join honest.img honest.digests --save months
@@ -241,10 +248,12 @@ pub const CHECK_HELP: &str = "ledgerd [-C FOLDER] [--quiet] check RECEIPT DIGEST
 Checks the receipt RECEIPT against the first of the digests DIGESTS that is of
 its last block. It prints `Yes` and ends with status 0 if it holds: then no
 image that verifies with this digest has another transaction at this place, nor,
-with a receipt made by --table, other changes by it in the table. Otherwise it
-prints `No receipt` and ends with status 1.
-RECEIPT may also be a chain, as `join` writes it. It holds if each of the
-digests of its blocks is that of the block's record. It writes no file.
+with a receipt made by --table, other changes by it in the table.
+RECEIPT may also be a chain, as `join` writes it. It holds if each digest is
+that of one of its records, and `Yes` is followed by its first and last block.
+Otherwise it ends with status 1 and prints `No digest of block K` if no digest
+is of the last block, K; `No join of block K` if a chain is good, but leaves out
+the digest of block K; or else `No receipt`. It writes no file.
 
 Example, from the top of the repository, after that of `receipt`:
   ./ledgerd -C examples check payment.receipt honest.digests
