@@ -1,0 +1,14 @@
+pub mod Places
+pub mod Rows
+pub mod OneStatement
+pub mod Tables
+pub mod Columns
+pub mod OrderOfChanges
+pub mod ColumnNames
+pub mod Indexes
+pub mod Ids
+pub mod TableNames
+pub mod WhileTheTableIsThere
+pub mod DroppedColumns
+pub mod Rules
+pub mod Samples
