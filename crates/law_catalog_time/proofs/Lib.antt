@@ -5,3 +5,4 @@ mod Statements
 mod ToldChanges
 mod ToldColumns
 mod ToldStatements
+pub mod WithPlaces
