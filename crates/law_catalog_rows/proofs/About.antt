@@ -47,10 +47,10 @@ is_other n id ne = here (int_eq (pos n) id) (Decides-int_eq (pos n) id)
     here true d = absurd (ne (grind arith))
     here false d = refl
 
-own_row : (n : ℕ) (row : Row) → StartsWith n row → is_about (pos n) row ≡ true
+pub own_row : (n : ℕ) (row : Row) → StartsWith n row → is_about (pos n) row ≡ true
 own_row n row s = ap (is_about (pos n)) s.1 ∙ is_own n
 
-other_row : (n : ℕ) (id : ℤ) → pos n ≢ id → (row : Row) → StartsWith n row → is_about id row ≡ false
+pub other_row : (n : ℕ) (id : ℤ) → pos n ≢ id → (row : Row) → StartsWith n row → is_about id row ≡ false
 other_row n id ne row s = ap (is_about id) s.1 ∙ is_other n id ne
 
 -- ---- rows about one table in front of others

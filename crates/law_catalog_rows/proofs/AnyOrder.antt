@@ -20,7 +20,7 @@ pub filter_same : {X : Type 0} (p q : X → Bool) (xs : List X) → ((x : X) →
 filter_same p q [] h = refl
 filter_same p q (x ∷ xs) h = rw (h x, filter_same p q xs h) refl
 
-all_same : {X : Type 0} (p q : X → Bool) (xs : List X) → ((x : X) → p x ≡ q x) → list_all p xs ≡ list_all q xs
+pub all_same : {X : Type 0} (p q : X → Bool) (xs : List X) → ((x : X) → p x ≡ q x) → list_all p xs ≡ list_all q xs
 all_same p q [] h = refl
 all_same p q (x ∷ xs) h = rw (h x, all_same p q xs h) refl
 
@@ -30,7 +30,7 @@ and_turned true false c = refl
 and_turned false true c = refl
 and_turned false false c = refl
 
-all_in_order : {X : Type 0} (p : X → Bool) (xs ys : List X) → IsPermutation xs ys → list_all p xs ≡ list_all p ys
+pub all_in_order : {X : Type 0} (p : X → Bool) (xs ys : List X) → IsPermutation xs ys → list_all p xs ≡ list_all p ys
 all_in_order p = along_permutation (λ xs ys. list_all p xs ≡ list_all p ys)
     (λ xs. refl)
     (λ x xs ys h. ap (λ (b : Bool). p x && b) h)

@@ -36,7 +36,7 @@ use Rattle.law_journal.proofs.DefLists.{redef}
 use Rattle.law_journal.proofs.Statements.{has_indexed_table}
 use Rattle.law_catalog_rows.specs.IsEncodableDef.{number_repeats}
 use Rattle.law_catalog_rows.proofs.Ordinals.{ordinals_differ}
-use Rattle.law_catalog_rows.proofs.Declared.{live_declared}
+use Rattle.law_catalog_rows.proofs.Declared.{live_declared, live_ordinals}
 use Rattle.law_catalog_rows.proofs.Names.{other_way}
 use Rattle.law_catalog_rows.specs.Formed.{AreInFront, FormedColumn, FormedIndex, HistoryOf, Formed, AllFresh, AllFormed}
 
@@ -192,6 +192,7 @@ pub record NewIndex (c : CreateIndex) (x : TableDef × IndexDef) : Type 0 where
   pub count : length x.1.ordinals ≡ length c.columns
   pub ordinals : AllByRecursion (λ o. 1 ≤ o) x.1.ordinals
   pub differ : number_repeats x.1.ordinals ≡ false
+  pub live : repeats (names_of x.0.columns) ≡ false → AllByRecursion (λ o. is_among x.0.dropped o ≡ false) x.1.ordinals
 
 pub new_index : (defs : Defs) (c : CreateIndex) (x : TableDef × IndexDef) → index_check defs c ≡ Ok x → NewIndex c x
 unfolding index_check
@@ -209,6 +210,7 @@ new_index defs c x e =
       count = length-map (map (place_of old.columns) c.columns) ordinal_at ∙ length-map c.columns (place_of old.columns);
       ordinals = ordinals_from_one old.columns c.columns declared;
       differ = ordinals_differ old.columns c.columns declared names.1;
+      live = λ once. live_ordinals old c.columns once (not_not _ p.0.fourth);
     })
 
 pub indexed_is_users : (defs : Defs) (c : CreateIndex) (x : TableDef × IndexDef) → index_check defs c ≡ Ok x → 2 < x.0.id

@@ -1,11 +1,11 @@
-mod About
+pub mod About
 pub mod AnyOrder
-mod ChangedTables
+pub mod ChangedTables
 pub mod CountingUp
 mod Declared
 pub mod Defs
 mod DroppedKept
-mod EachEncoded
+pub mod EachEncoded
 mod Edited
 pub mod FormedAfter
 pub mod Forms
@@ -18,19 +18,19 @@ mod KeyCounted
 mod KeyKept
 mod KeyPositions
 pub mod LatestOf
-mod LiveRows
-mod MayBe
-mod Names
+pub mod LiveRows
+pub mod MayBe
+pub mod Names
 mod NewIndex
 mod NewNames
 mod NewTable
-mod NextRow
+pub mod NextRow
 pub mod OneRowMore
 pub mod Orders
 mod Ordinals
 pub mod Passing
-mod RowsAfter
+pub mod RowsAfter
 mod Tests
 mod Unchanged
-mod WrittenAfter
+pub mod WrittenAfter
 pub use Rattle.law_frame.proofs.Alls

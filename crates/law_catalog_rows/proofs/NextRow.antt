@@ -138,10 +138,10 @@ module _ (first second : List Row) (def : TableDef) (id : 1 ≤ def.id) (h : Enc
       ∙ ap greatest (sym (map-append count_of (map (change_of 0) tables) (map (change_of 1) items)))
       ∙ greatest_of_both (map (change_of 0) tables) (map (change_of 1) items)
 
-  above_tables : AllByRecursion (λ q. change_of 0 q <ℤ pos next) tables
+  pub above_tables : AllByRecursion (λ q. change_of 0 q <ℤ pos next) tables
   above_tables = each_below 0 tables (greatest (changes_in 1 def.id first ++ changes_in 2 def.id second)) (omega (arith, greatest_is))
 
-  above_items : AllByRecursion (λ q. change_of 1 q <ℤ pos next) items
+  pub above_items : AllByRecursion (λ q. change_of 1 q <ℤ pos next) items
   above_items = each_below 1 items (greatest (changes_in 1 def.id first ++ changes_in 2 def.id second)) (omega (arith, greatest_is))
 
   next_is : pos next ≡ pos (suc (greatest_count (all_later tables items)))

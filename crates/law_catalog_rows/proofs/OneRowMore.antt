@@ -126,12 +126,12 @@ module _ (k : ℕ) where
       let p = and_true (same_number k a b) (is_gt (int_cmp (change_of k a) (change_of k b))) h in
       (one_number (number_at k a) (number_at k b) p.0, greater (change_of k a) (change_of k b) p.1)
 
-  past_where : (a b : Row) → number_at k a ≡ number_at k b → change_of k b <ℤ change_of k a → is_past k a b ≡ true
+  pub past_where : (a b : Row) → number_at k a ≡ number_at k b → change_of k b <ℤ change_of k a → is_past k a b ≡ true
   past_where a b same less =
       both_true (same_number k a b) (is_gt (int_cmp (change_of k a) (change_of k b)))
       (is_number (number_at k a) (number_at k b) same) (is_greater (change_of k a) (change_of k b) less)
 
-  not_past : (a b : Row) → change_of k a ≤ℤ change_of k b → is_past k a b ≡ false
+  pub not_past : (a b : Row) → change_of k a ≤ℤ change_of k b → is_past k a b ≡ false
   not_past a b le = ap (λ (c : Bool). same_number k a b && c) (isnt_greater (change_of k a) (change_of k b) le) ∙ and_false (same_number k a b)
 
   pub not_itself : (a : Row) → is_past k a a ≡ false

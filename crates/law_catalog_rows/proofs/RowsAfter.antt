@@ -65,15 +65,15 @@ made_whole : (id change : ℕ) (name : List ℕ) (code : ℕ) (kind : TableKind)
 made_whole id change name code AppendOnly history view = refl
 made_whole id change name code Updatable history view = refl
 
-table_row_whole : (def : TableDef) → IsWhole tables_columns (table_row def)
+pub table_row_whole : (def : TableDef) → IsWhole tables_columns (table_row def)
 unfolding table_row
 table_row_whole def = made_whole def.id 0 def.name (kind_code def.kind) def.kind def.history def.view
 
-changed_table_row_whole : (change : ℕ) (def : TableDef) → IsWhole tables_columns (changed_table_row change def)
+pub changed_table_row_whole : (change : ℕ) (def : TableDef) → IsWhole tables_columns (changed_table_row change def)
 unfolding changed_table_row
 changed_table_row_whole change def = made_whole def.id change def.name (kind_in_row def) def.kind def.history def.view
 
-changed_column_row_whole : (change : ℕ) (def : TableDef) (c : ℕ × ColumnDef) → IsWhole columns_columns (changed_column_row change def c)
+pub changed_column_row_whole : (change : ℕ) (def : TableDef) (c : ℕ × ColumnDef) → IsWhole columns_columns (changed_column_row change def c)
 unfolding changed_column_row
 changed_column_row_whole change def c = refl
 
@@ -85,11 +85,11 @@ parts_whole : (id g n : ℕ) (name : List ℕ) (os : List ℕ) → AllByRecursio
 parts_whole id g n name [] = tt
 parts_whole id g n name (o ∷ os) = (refl, parts_whole id g (n + 1) name os)
 
-column_rows_whole : (def : TableDef) → AllByRecursion (IsWhole columns_columns) (column_rows def)
+pub column_rows_whole : (def : TableDef) → AllByRecursion (IsWhole columns_columns) (column_rows def)
 unfolding column_rows
 column_rows_whole def = columns_whole def.id 1 def.columns
 
-index_rows_whole : (def : TableDef) (i : IndexDef) → AllByRecursion (IsWhole columns_columns) (index_rows def.id (length def.indexes + 1) i)
+pub index_rows_whole : (def : TableDef) (i : IndexDef) → AllByRecursion (IsWhole columns_columns) (index_rows def.id (length def.indexes + 1) i)
 unfolding index_rows
 index_rows_whole def i = parts_whole def.id (length def.indexes + 1) 1 i.name i.ordinals
 
@@ -125,7 +125,7 @@ none_above last limit (n ∷ ns) e =
     let le : n ≤ limit = leb-true n limit (and_true (nat_lt last n) (nat_le n limit) p.0).1 in
     rw (ne_eqb n (suc limit) (λ same. absurd (omega (arith, le, same)))) (none_above n limit ns p.1)
 
-next_is_live : (def : TableDef) → Formed def → is_dropped def (suc (length def.columns)) ≡ false
+pub next_is_live : (def : TableDef) → Formed def → is_dropped def (suc (length def.columns)) ≡ false
 next_is_live def f = none_above 0 (length def.columns) def.dropped (and_true (rise_within 0 (length def.columns) def.dropped) _ f.dropped).0
 
 -- ---- statements over the two system tables and the others
@@ -255,7 +255,7 @@ module _ (tx seq : ℕ) (a b : Table) (ts : Tables) (ids : IdsFrom 1 (defs_of (a
   abbrev change_of_rows : ℕ → ℕ
   change_of_rows id = next_change_in id (live_rows a.versions) (live_rows b.versions)
 
-  same_change : (id : ℕ) → change_of_versions id ≡ change_of_rows id
+  pub same_change : (id : ℕ) → change_of_versions id ≡ change_of_rows id
   same_change id =
       ap (λ (vs : List Version). next_change id vs (versions_of T columns_id)) first_versions ∙ ap (next_change id a.versions) second_versions
       ∙ next_of_rows id a.versions b.versions (kept.0 (ap (λ (d : TableDef). d.kind) formed.system.0)) (kept.1.0 (ap (λ (d : TableDef). d.kind) formed.system.1))
