@@ -14,13 +14,15 @@ use Rattle.spec_verify.specs.Blocks.{digest_fault, chain_fault, block_fault}
 use Rattle.spec_verify.specs.Definitions.{definition_fault}
 use Rattle.spec_verify.specs.Entries.{table_event_cmp, strangers, least_event, repeated_id, id_fault, root_fault}
 use Rattle.spec_verify.specs.Indexes.{index_fault}
-use Rattle.spec_verify.specs.Sentences.{DigestHolds, LinkHolds, BlockHolds, IsNewId, HasEntry, events_of_image, EntryHolds, IsEntryFault, VersionHolds, versions_of_image, start_of, IsEncodedAt, ids_of_tables, IndexesHold, IsIndexFault, defs_and_rows, HoldsTogether}
+use Rattle.spec_verify.specs.Sentences.{DigestHolds, LinkHolds, BlockHolds, IsNewId, HasEntry, events_of_image, EntryHolds, IsEntryFault, TableRulesHold, VersionHolds, VersionRulesHold, versions_of_image, start_of, IsEncodedAt, ids_of_tables, IndexesHold, IsIndexFault, defs_and_rows, HoldsTogether}
 use Rattle.spec_verify.specs.Told.{HoldsOfEach, TellsFirst, TellsLeast}
 use Rattle.spec_verify.specs.Verdict.{image_verdict, AllHold}
+use Rattle.spec_verify.specs.Rules.{ids_of_rows, table_rule_fault, version_rule_fault}
 use Rattle.spec_verify.specs.Versions.{version_fault}
 use Rattle.spec_verify.proofs.AllHold.{yes_exactly}
 use Rattle.spec_verify.proofs.ToldBlocks.{digests_told, chain_told, blocks_told}
 use Rattle.spec_verify.proofs.ToldEntries.{ids_told, events_told, entries_told}
+use Rattle.spec_verify.proofs.ToldRules.{table_rules_told, version_rules_told}
 use Rattle.spec_verify.proofs.ToldTables.{definitions_told, indexes_told}
 use Rattle.spec_verify.proofs.ToldVersions.{versions_told}
 
@@ -109,7 +111,9 @@ module _ (h : List ℕ → List ℕ) (i : Image) (digests : List HeldDigest) whe
         events = ids.1;
         entries = by_recursion (EntryHolds h i) i.entries (each_holds (λ k e. EntryHolds h i e) (λ k e p. IsEntryFault h i e p) i.entries (root_fault h i) (entries_told h i) a.roots);
         versions = all_hold (on start_of table_event_cmp) (VersionHolds i) (λ x p. p ≡ at.Event x.0.def.id x.1.start.0 x.1.start.1) (versions_of_image i) (version_fault i) (versions_told i) a.versions;
+        version_rules = all_hold (on start_of table_event_cmp) (VersionRulesHold i) (λ x p. p ≡ at.Event x.0.def.id x.1.start.0 x.1.start.1) (versions_of_image i) (version_rule_fault i) (version_rules_told i) a.version_rules;
         definitions = all_hold int_cmp (IsEncodedAt i) (λ id p. p ≡ at.Table id) (ids_of_tables i) (definition_fault i) (definitions_told i) a.definitions;
+        table_rules = all_hold int_cmp (TableRulesHold i) (λ id p. p ≡ at.Table id) (ids_of_rows i) (table_rule_fault i) (table_rules_told i) a.table_rules;
         indexes = by_recursion IndexesHold (defs_and_rows i) (each_holds (λ k t. IndexesHold t) (λ k t p. IsIndexFault t p) (defs_and_rows i) (index_fault i) (indexes_told i) a.indexes);
       }
 
@@ -122,7 +126,9 @@ module _ (h : List ℕ → List ℕ) (i : Image) (digests : List HeldDigest) whe
         ids = no_id_fault i (t.ids, t.events);
         roots = none_found (λ k e. EntryHolds h i e) (λ k e p. IsEntryFault h i e p) i.entries (root_fault h i) (entries_told h i) (by_place (EntryHolds h i) i.entries t.entries);
         versions = no_least (on start_of table_event_cmp) (VersionHolds i) (λ x p. p ≡ at.Event x.0.def.id x.1.start.0 x.1.start.1) (versions_of_image i) (version_fault i) (versions_told i) t.versions;
+        version_rules = no_least (on start_of table_event_cmp) (VersionRulesHold i) (λ x p. p ≡ at.Event x.0.def.id x.1.start.0 x.1.start.1) (versions_of_image i) (version_rule_fault i) (version_rules_told i) t.version_rules;
         definitions = no_least int_cmp (IsEncodedAt i) (λ id p. p ≡ at.Table id) (ids_of_tables i) (definition_fault i) (definitions_told i) t.definitions;
+        table_rules = no_least int_cmp (TableRulesHold i) (λ id p. p ≡ at.Table id) (ids_of_rows i) (table_rule_fault i) (table_rules_told i) t.table_rules;
         indexes = none_found (λ k t. IndexesHold t) (λ k t p. IsIndexFault t p) (defs_and_rows i) (index_fault i) (indexes_told i) (by_place IndexesHold (defs_and_rows i) t.indexes);
       }
 

@@ -233,7 +233,7 @@ module _ (P : TableDef → Type 0) where
 
 -- ---- rows about other tables
 
-none_about : (Q : ℤ → Type 0) (id : ℤ) (rows : List Row) → (Q id → ⊥) → AllByRecursion Q (filter_map table_of rows) → about id rows ≡ []
+pub none_about : (Q : ℤ → Type 0) (id : ℤ) (rows : List Row) → (Q id → ⊥) → AllByRecursion Q (filter_map table_of rows) → about id rows ≡ []
 none_about Q id [] never h = refl
 none_about Q id ([] ∷ rs) never h = none_about Q id rs never h
 none_about Q id ((Null ∷ vs) ∷ rs) never h = none_about Q id rs never h

@@ -6,11 +6,10 @@ use Rattle.spec_verify.specs.declared.place.Invariant.TheVariants.{V1, V2, V3, V
 use Rattle.spec_verify.specs.declared.place.Place.{Place}
 use Rattle.spec_verify.specs.declared.place.Verdict.TheVariants.{No}
 use Rattle.spec_verify.specs.Blocks.{digest_fault, chain_fault, block_fault}
-use Rattle.spec_verify.specs.Definitions.{definition_fault}
 use Rattle.spec_verify.specs.Entries.{id_fault, root_fault}
 use Rattle.spec_verify.specs.Indexes.{index_fault}
+use Rattle.spec_verify.specs.Rules.{row_fault, catalog_fault}
 use Rattle.spec_verify.specs.Verdict.{image_verdict}
-use Rattle.spec_verify.specs.Versions.{version_fault}
 
 module _ (h : List ℕ → List ℕ) (i : Image) (digests : List HeldDigest) (p : Place) where
   pub digests_first : digest_fault h i digests ≡ Some p → image_verdict h i digests ≡ No V1 p
@@ -33,14 +32,14 @@ module _ (h : List ℕ → List ℕ) (i : Image) (digests : List HeldDigest) (p 
   unfolding image_verdict
   entries_first a b c d e = rw (a, b, c, d, e) refl
 
-  pub versions_first : digest_fault h i digests ≡ None → chain_fault h i ≡ None → block_fault h i ≡ None → id_fault i ≡ None → root_fault h i ≡ None → version_fault i ≡ Some p → image_verdict h i digests ≡ No V6 p
+  pub versions_first : digest_fault h i digests ≡ None → chain_fault h i ≡ None → block_fault h i ≡ None → id_fault i ≡ None → root_fault h i ≡ None → row_fault i ≡ Some p → image_verdict h i digests ≡ No V6 p
   unfolding image_verdict
   versions_first a b c d e f = rw (a, b, c, d, e, f) refl
 
-  pub definitions_first : digest_fault h i digests ≡ None → chain_fault h i ≡ None → block_fault h i ≡ None → id_fault i ≡ None → root_fault h i ≡ None → version_fault i ≡ None → definition_fault i ≡ Some p → image_verdict h i digests ≡ No V7 p
+  pub definitions_first : digest_fault h i digests ≡ None → chain_fault h i ≡ None → block_fault h i ≡ None → id_fault i ≡ None → root_fault h i ≡ None → row_fault i ≡ None → catalog_fault i ≡ Some p → image_verdict h i digests ≡ No V7 p
   unfolding image_verdict
   definitions_first a b c d e f g = rw (a, b, c, d, e, f, g) refl
 
-  pub indexes_first : digest_fault h i digests ≡ None → chain_fault h i ≡ None → block_fault h i ≡ None → id_fault i ≡ None → root_fault h i ≡ None → version_fault i ≡ None → definition_fault i ≡ None → index_fault i ≡ Some p → image_verdict h i digests ≡ No V8 p
+  pub indexes_first : digest_fault h i digests ≡ None → chain_fault h i ≡ None → block_fault h i ≡ None → id_fault i ≡ None → root_fault h i ≡ None → row_fault i ≡ None → catalog_fault i ≡ None → index_fault i ≡ Some p → image_verdict h i digests ≡ No V8 p
   unfolding image_verdict
   indexes_first a b c d e f g k = rw (a, b, c, d, e, f, g, k) refl

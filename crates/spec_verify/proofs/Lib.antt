@@ -12,7 +12,8 @@ pub mod EncodedSo
 pub mod SystemRows
 pub mod ToldBlocks
 pub mod ToldEntries
-mod ToldTables
+pub mod ToldRules
+pub mod ToldTables
 pub mod ToldVersions
 mod Worked
 mod WorkedBytes

@@ -1,10 +1,10 @@
 -- Versions: what is told of them.
-use Rattle.std.proofs.Common.{◌≡◌, ◌≢◌, ◌≤◌, ◌<◌, ◌+◌, ℕ, zero, suc, arith, ◌∙◌, refl, sym, ap, subst, Bool, true, false, true≢false, List, [], ◌∷◌, ◌++◌, map, Option, Some, None}
+use Rattle.std.proofs.Common.{◌≡◌, ◌≢◌, ◌≤◌, ◌<◌, ◌+◌, ℕ, zero, suc, arith, ◌∙◌, refl, sym, ap, subst, Bool, true, false, true≢false, List, [], ◌∷◌, ◌++◌, map, flat_map, Option, Some, None}
 use Rattle.std.proofs.lemmas.Bool.{leb-true, leb-false}
-use Rattle.std.proofs.lemmas.Bool.Decides.{Decides-and, Decides-like, not_from_Decides}
+use Rattle.std.proofs.lemmas.Bool.Decides.{Decides-and, Decides-at, Decides-like, not_from_Decides}
 use Rattle.std.specs.Bool.{Decides}
 use Rattle.std.specs.Cmp.{IsTotalOrder, on_total}
-use Rattle.std.specs.Prelude.{◌&&◌, not, is_some, is_none, nat_le, if◌then◌else◌, slice_get, flat_map, IfSome, MatchOption}
+use Rattle.std.specs.Prelude.{◌&&◌, not, is_some, is_none, nat_le, if◌then◌else◌, slice_get, IfSome, MatchOption}
 use Rattle.std.specs.List.{AllByRecursion, filter, list_any}
 use Rattle.std.specs.Ordering.{is_gt, on}
 use Rattle.std.specs.declared.cmp.Ordering.{Ordering}
@@ -21,12 +21,12 @@ use Rattle.format_image.specs.Tables.{tables_in}
 use Rattle.law_catalog_rows.specs.Least.{lesser, least_from}
 use Rattle.spec_verify.specs.declared.place.Place.{Place}
 use Rattle.spec_verify.specs.declared.place.Place.TheVariants as at
-use Rattle.spec_verify.specs.Entries.{table_event_cmp, event_place, least_event}
+use Rattle.spec_verify.specs.Entries.{TableEvent, table_event_cmp, event_place, least_event}
 use Rattle.spec_verify.specs.Order.{is_before, latest, ends_before, ends_well, follows, shares_key}
 use Rattle.spec_verify.specs.Sentences.{TableVersion, versions_of_image, start_of, earlier_of, column_of, ValueHolds, VersionHolds}
 use Rattle.spec_verify.specs.Told.{HoldsOfEach, TellsLeast}
-use Rattle.spec_verify.specs.Versions.{has_columns, respects_not_null, respects_from, respects_columns, rows_of_columns, says_not_null, takes, with_columns, version_holds, bad_versions, version_fault}
-use Rattle.spec_verify.proofs.Deciding.{not_true, not_false, Decides-none}
+use Rattle.spec_verify.specs.Versions.{has_columns, respects_not_null, respects_from, respects_columns, rows_of_columns, says_not_null, takes, with_columns, version_holds, version_fault}
+use Rattle.spec_verify.proofs.Deciding.{Decides-none}
 use Rattle.spec_verify.proofs.Leasts.{Placed, least_told}
 use Rattle.spec_verify.proofs.ToldEntries.{table_event_total}
 
@@ -155,18 +155,23 @@ module _ {A B : Type 0} (f : A → B) (cmp : B → B → Ordering) where
 abbrev start_place : Option TableVersion → Option Place
 start_place x = event_place (through start_of table_event_cmp x)
 
-module _ (i : Image) where
-  abbrev is_bad : TableVersion → Bool
-  is_bad x = not (version_holds i.entries (rows_of_columns i.tables) x.0 x.1)
+not_twice : (b : Bool) → not (not b) ≡ b
+not_twice true = refl
+not_twice false = refl
+
+-- the versions for which a test fails, in all tables
+module _ (is_bad : TableVersion → Bool) where
+  abbrev bad_starts : Table → List TableEvent
+  bad_starts t = map (λ (v : Version). (t.def.id, v.start)) (filter (λ v. is_bad (t, v)) t.versions)
 
   with_table : (t : Table) (vs : List Version)
-      → map (λ (v : Version). (t.def.id, v.start)) (filter (λ v. not (version_holds i.entries (rows_of_columns i.tables) t v)) vs) ≡ map start_of (filter is_bad (map (λ v. (t, v)) vs))
+      → map (λ (v : Version). (t.def.id, v.start)) (filter (λ v. is_bad (t, v)) vs) ≡ map start_of (filter is_bad (map (λ v. (t, v)) vs))
   with_table t [] = refl
-  with_table t (v ∷ vs) = here (not (version_holds i.entries (rows_of_columns i.tables) t v)) refl (with_table t vs)
+  with_table t (v ∷ vs) = here (is_bad (t, v)) refl (with_table t vs)
     where
-      here : (b : Bool) → not (version_holds i.entries (rows_of_columns i.tables) t v) ≡ b
-          → map (λ (v : Version). (t.def.id, v.start)) (filter (λ v. not (version_holds i.entries (rows_of_columns i.tables) t v)) vs) ≡ map start_of (filter is_bad (map (λ v. (t, v)) vs))
-          → map (λ (v : Version). (t.def.id, v.start)) (filter (λ v. not (version_holds i.entries (rows_of_columns i.tables) t v)) (v ∷ vs)) ≡ map start_of (filter is_bad (map (λ v. (t, v)) (v ∷ vs)))
+      here : (b : Bool) → is_bad (t, v) ≡ b
+          → map (λ (v : Version). (t.def.id, v.start)) (filter (λ v. is_bad (t, v)) vs) ≡ map start_of (filter is_bad (map (λ v. (t, v)) vs))
+          → map (λ (v : Version). (t.def.id, v.start)) (filter (λ v. is_bad (t, v)) (v ∷ vs)) ≡ map start_of (filter is_bad (map (λ v. (t, v)) (v ∷ vs)))
       here true e r = rw e (ap (λ more. (t.def.id, v.start) ∷ more) r)
       here false e r = rw e r
 
@@ -179,10 +184,10 @@ module _ (i : Image) where
       here true e r = rw e (ap (λ more. start_of x ∷ more) r)
       here false e r = rw e r
 
-  all_tables : (ts : List Table) → flat_map (bad_versions i.entries (rows_of_columns i.tables)) ts ≡ map start_of (filter is_bad (flat_map (λ (t : Table). map (λ v. (t, v)) t.versions) ts))
+  all_tables : (ts : List Table) → flat_map bad_starts ts ≡ map start_of (filter is_bad (flat_map (λ (t : Table). map (λ v. (t, v)) t.versions) ts))
   all_tables [] = refl
   all_tables (t ∷ ts) =
-      ap (λ more. bad_versions i.entries (rows_of_columns i.tables) t ++ more) (all_tables ts)
+      ap (λ more. bad_starts t ++ more) (all_tables ts)
       ∙ ap (λ front. front ++ map start_of (filter is_bad (flat_map (λ (t : Table). map (λ v. (t, v)) t.versions) ts))) (with_table t t.versions)
       ∙ sym (append_bad (map (λ v. (t, v)) t.versions) (flat_map (λ (t : Table). map (λ v. (t, v)) t.versions) ts))
 
@@ -192,12 +197,21 @@ module _ (i : Image) where
   start_total : IsTotalOrder (on start_of table_event_cmp)
   start_total = on_total start_of table_event_total
 
+  -- where the test decides a sentence, the start of the least version is told of which it fails
+  pub starts_told : (Holds : TableVersion → Type 0) → ((x : TableVersion) → Decides (not (is_bad x)) (Holds x)) → (ts : List Table)
+      → TellsLeast (on start_of table_event_cmp) Holds (λ x p. p ≡ at.Event x.0.def.id x.1.start.0 x.1.start.1) (flat_map (λ (t : Table). map (λ v. (t, v)) t.versions) ts) (least_event (flat_map bad_starts ts))
+  starts_told Holds decides ts =
+      let all : List TableVersion = flat_map (λ (t : Table). map (λ v. (t, v)) t.versions) ts in
+      subst (λ p. TellsLeast (on start_of table_event_cmp) Holds (λ x p. p ≡ at.Event x.0.def.id x.1.start.0 x.1.start.1) all p)
+      (sym (ap least_event (all_tables ts) ∙ ap event_place (least_through start_of table_event_cmp None (filter is_bad all))))
+      (least_told (on start_of table_event_cmp) start_total Holds is_bad
+      (λ x is. (decides x).0 (ap not is))
+      (λ x is. not_from_Decides (not (is_bad x)) (decides x) (ap not is))
+      (λ x p. p ≡ at.Event x.0.def.id x.1.start.0 x.1.start.1) start_place all places_of_starts)
+
+module _ (i : Image) where
   pub versions_told : TellsLeast (on start_of table_event_cmp) (VersionHolds i) (λ x p. p ≡ at.Event x.0.def.id x.1.start.0 x.1.start.1) (versions_of_image i) (version_fault i)
   unfolding version_fault
   versions_told =
-      subst (λ p. TellsLeast (on start_of table_event_cmp) (VersionHolds i) (λ x p. p ≡ at.Event x.0.def.id x.1.start.0 x.1.start.1) (versions_of_image i) p)
-      (sym (ap least_event (all_tables (tables_in i)) ∙ ap event_place (least_through start_of table_event_cmp None (filter is_bad (versions_of_image i)))))
-      (least_told (on start_of table_event_cmp) start_total (VersionHolds i) is_bad
-      (λ x is. (decides_version i x).0 (not_true (version_holds i.entries (rows_of_columns i.tables) x.0 x.1) is))
-      (λ x is. not_from_Decides (version_holds i.entries (rows_of_columns i.tables) x.0 x.1) (decides_version i x) (not_false (version_holds i.entries (rows_of_columns i.tables) x.0 x.1) is))
-      (λ x p. p ≡ at.Event x.0.def.id x.1.start.0 x.1.start.1) start_place (versions_of_image i) places_of_starts)
+      let holds : TableVersion → Bool = λ x. version_holds i.entries (rows_of_columns i.tables) x.0 x.1 in
+      starts_told (λ x. not (holds x)) (VersionHolds i) (λ x. Decides-at (not (not (holds x))) (holds x) (not_twice (holds x)) (decides_version i x)) (tables_in i)

@@ -35,6 +35,16 @@ use Rattle.spec_verify.specs.Blocks.{digest_fault, chain_fault, block_fault}
 use Rattle.spec_verify.specs.Entries.{id_fault, root_fault}
 use Rattle.spec_verify.specs.Versions.{version_fault}
 use Rattle.spec_verify.specs.Definitions.{definition_fault}
+use Rattle.spec_rules.specs.OneStatement.{one_statement}
+use Rattle.spec_rules.specs.Tables.{tables_are_right}
+use Rattle.spec_rules.specs.Columns.{columns_are_right}
+use Rattle.spec_rules.specs.OrderOfChanges.{changes_are_in_order}
+use Rattle.spec_rules.specs.ColumnNames.{column_names_are_new}
+use Rattle.spec_rules.specs.Indexes.{indexes_are_in_time}
+use Rattle.spec_rules.specs.Ids.{ids_follow}
+use Rattle.spec_rules.specs.TableNames.{table_names_are_new}
+use Rattle.spec_rules.specs.WhileTheTableIsThere.{is_while_the_table_is_there}
+use Rattle.spec_verify.specs.Rules.{catalog_fault, row_fault, table_rule_fault, version_rule_fault}
 use Rattle.spec_verify.specs.Indexes.{index_fault}
 use Rattle.spec_verify.specs.Verdict.{image_verdict}
 use Rattle.test_samples.specs.Samples.{read_in, typed}
@@ -58,7 +68,7 @@ pub holds :
     × (image_verdict summed two_blocks (digest_of two_blocks ∷ []) ≡ Yes)
     × (image_verdict summed one_pending (digest_of one_pending ∷ []) ≡ Yes)
     × (image_verdict summed ids_fall (digest_of ids_fall ∷ []) ≡ Yes)
-unfolding image_verdict digest_fault chain_fault block_fault id_fault root_fault version_fault definition_fault index_fault roots_of block_of events_of all_events event_bytes entry_bytes record_bytes key_places key_at key_cmp same_key value_cmp raised is_in_range is_stored utf16_units chars table_row column_rows index_rows item_rows latest_table_row latest_item_rows encoding_fault rows.index_rows index_ordinals stored_cmp u16_field u32_field u64_field signed_field i128_field
+unfolding image_verdict digest_fault chain_fault block_fault id_fault root_fault version_fault definition_fault index_fault row_fault catalog_fault version_rule_fault table_rule_fault one_statement tables_are_right columns_are_right changes_are_in_order column_names_are_new indexes_are_in_time ids_follow table_names_are_new is_while_the_table_is_there roots_of block_of events_of all_events event_bytes entry_bytes record_bytes key_places key_at key_cmp same_key value_cmp raised is_in_range is_stored utf16_units chars table_row column_rows index_rows item_rows latest_table_row latest_item_rows encoding_fault rows.index_rows index_ordinals stored_cmp u16_field u32_field u64_field signed_field i128_field
 holds = (refl, refl, refl, refl)
 
 pub damage :
@@ -74,14 +84,14 @@ pub damage :
     × (image_verdict summed (with_blocks (block_of summed 0 [] no_hash ∷ [])) [] ≡ No V3 (at.Block 0))
     × (image_verdict summed older_block (digest_of older_block ∷ []) ≡ No V3 (at.Block 0))
     × (image_verdict summed honest (digest_of honest ∷ digest_of index_left ∷ []) ≡ No V1 (at.Digest 1))
-unfolding image_verdict digest_fault chain_fault block_fault id_fault root_fault version_fault definition_fault index_fault roots_of block_of events_of all_events event_bytes entry_bytes record_bytes key_places key_at key_cmp same_key value_cmp raised is_in_range is_stored utf16_units chars table_row column_rows index_rows item_rows latest_table_row latest_item_rows encoding_fault rows.index_rows index_ordinals stored_cmp u16_field u32_field u64_field signed_field i128_field
+unfolding image_verdict digest_fault chain_fault block_fault id_fault root_fault version_fault definition_fault index_fault row_fault catalog_fault version_rule_fault table_rule_fault one_statement tables_are_right columns_are_right changes_are_in_order column_names_are_new indexes_are_in_time ids_follow table_names_are_new is_while_the_table_is_there roots_of block_of events_of all_events event_bytes entry_bytes record_bytes key_places key_at key_cmp same_key value_cmp raised is_in_range is_stored utf16_units chars table_row column_rows index_rows item_rows latest_table_row latest_item_rows encoding_fault rows.index_rows index_ordinals stored_cmp u16_field u32_field u64_field signed_field i128_field
 damage = (refl, refl, refl, refl, refl, refl, refl, refl, refl, refl, refl, refl)
 
 pub others :
     (image_verdict summed honest (of_another (digest_of honest) ∷ []) ≡ No V1 (at.Digest 0))
     × (let image = root_more ((9, no_hash) ∷ []) in image_verdict summed image (digest_of image ∷ []) ≡ No V5 (at.Root 3 9))
     × (image_verdict summed rootless (digest_of rootless ∷ []) ≡ No V5 (at.Root 1 2))
-unfolding image_verdict digest_fault chain_fault block_fault id_fault root_fault version_fault definition_fault index_fault roots_of block_of events_of all_events event_bytes entry_bytes record_bytes key_places key_at key_cmp same_key value_cmp raised is_in_range is_stored utf16_units chars table_row column_rows index_rows item_rows latest_table_row latest_item_rows encoding_fault rows.index_rows index_ordinals stored_cmp u16_field u32_field u64_field signed_field i128_field
+unfolding image_verdict digest_fault chain_fault block_fault id_fault root_fault version_fault definition_fault index_fault row_fault catalog_fault version_rule_fault table_rule_fault one_statement tables_are_right columns_are_right changes_are_in_order column_names_are_new indexes_are_in_time ids_follow table_names_are_new is_while_the_table_is_there roots_of block_of events_of all_events event_bytes entry_bytes record_bytes key_places key_at key_cmp same_key value_cmp raised is_in_range is_stored utf16_units chars table_row column_rows index_rows item_rows latest_table_row latest_item_rows encoding_fault rows.index_rows index_ordinals stored_cmp u16_field u32_field u64_field signed_field i128_field
 others = (refl, refl, refl)
 
 pub rules :
@@ -92,7 +102,7 @@ pub rules :
     × (let image = two_rows (index_t 2 10 ∷ []) in image_verdict summed image (digest_of image ∷ []) ≡ No V8 (at.Index 3 1))
     × (let image = two_rows (index_t 1 20 ∷ index_t 2 10 ∷ []) in image_verdict summed image (digest_of image ∷ []) ≡ No V8 (at.Index 3 1))
     × (let image = two_rows (index_t 2 10 ∷ index_t 1 20 ∷ []) in image_verdict summed image (digest_of image ∷ []) ≡ Yes)
-unfolding image_verdict digest_fault chain_fault block_fault id_fault root_fault version_fault definition_fault index_fault roots_of block_of events_of all_events event_bytes entry_bytes record_bytes key_places key_at key_cmp same_key value_cmp raised is_in_range is_stored utf16_units chars table_row column_rows index_rows item_rows latest_table_row latest_item_rows encoding_fault rows.index_rows index_ordinals stored_cmp u16_field u32_field u64_field signed_field i128_field
+unfolding image_verdict digest_fault chain_fault block_fault id_fault root_fault version_fault definition_fault index_fault row_fault catalog_fault version_rule_fault table_rule_fault one_statement tables_are_right columns_are_right changes_are_in_order column_names_are_new indexes_are_in_time ids_follow table_names_are_new is_while_the_table_is_there roots_of block_of events_of all_events event_bytes entry_bytes record_bytes key_places key_at key_cmp same_key value_cmp raised is_in_range is_stored utf16_units chars table_row column_rows index_rows item_rows latest_table_row latest_item_rows encoding_fault rows.index_rows index_ordinals stored_cmp u16_field u32_field u64_field signed_field i128_field
 rules = (refl, refl, refl, refl, refl, refl, refl)
 
 pub covered :

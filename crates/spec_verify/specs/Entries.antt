@@ -15,7 +15,7 @@ use Rattle.format_image.specs.Entries.{roots_of}
 use Rattle.format_image.specs.Tables.{tables_in}
 use Rattle.spec_verify.specs.declared.place.Place.{Place}
 use Rattle.spec_verify.specs.declared.place.Place.TheVariants as at
-use Rattle.law_catalog_rows.specs.Least.{least}
+use Rattle.law_catalog_rows.specs.Least.{least, lesser_of}
 use Rattle.spec_verify.specs.First.{unless, first}
 
 -- ---- no two entries have one id, and no version was started or ended by a transaction without an entry
@@ -37,6 +37,15 @@ event_place (Some e) = Some (at.Event e.0 e.1.0 e.1.1)
 
 abbrev pub least_event : List TableEvent → Option Place
 least_event events = event_place (least table_event_cmp events)
+
+-- the event that a place names, if it names one
+abbrev pub event_at : Option Place → Option TableEvent
+event_at (Some (at.Event table tx seq)) = Some (table, (tx, seq))
+event_at _ = None
+
+-- the lesser of two versions that may be at fault, by their starts
+abbrev pub lesser_version : Option Place → Option Place → Option Place
+lesser_version a b = event_place (lesser_of table_event_cmp (event_at a) (event_at b))
 
 -- the starts and ends in a table
 abbrev pub events_in : Table → List TableEvent

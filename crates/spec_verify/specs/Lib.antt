@@ -9,6 +9,7 @@ pub mod Groups
 pub mod Indexes
 pub mod Line
 pub mod Order
+pub mod Rules
 pub mod Samples
 pub mod Sentences
 pub mod Told

@@ -1,16 +1,12 @@
 -- The order of the versions of one key, by the places of their transactions in the ledger.
-use Rattle.std.specs.Prelude.{ℕ, zero, suc, ◌==◌, ◌&&◌, ◌||◌, Bool, true, false, if◌then◌else◌, nat_lt, List, [], ◌∷◌, Option, Some, None, is_some, is_none}
+use Rattle.std.specs.Prelude.{◌==◌, ◌&&◌, ◌||◌, Bool, true, false, if◌then◌else◌, nat_lt, List, [], ◌∷◌, Option, Some, None, is_some, is_none}
 use Rattle.std.specs.List.{list_any, filter}
 use Rattle.sql_value.specs.declared.column.ColumnDef.{ColumnDef}
 use Rattle.sql_types.specs.declared.entry.TxEntry.{TxEntry}
 use Rattle.sql_types.specs.declared.version.Version.{Version}
 use Rattle.spec_model.specs.Rows.{EventId, same_event}
 use Rattle.spec_model.specs.Keys.{version_key, of_key}
-
--- how many entries stand before the one with this id
-abbrev pub position_of : List TxEntry → ℕ → ℕ
-position_of [] id = zero
-position_of (e ∷ es) id = if e.id == id then zero else suc (position_of es id)
+pub use Rattle.spec_rules.specs.Places.{position_of}
 
 module _ (entries : List TxEntry) where
   -- by the place of the entry, then by number

@@ -30,6 +30,8 @@ use Rattle.spec_verify.specs.Definitions.{base_rows}
 use Rattle.spec_verify.specs.Entries.{TableEvent, events_in, root_at}
 use Rattle.spec_verify.specs.Indexes.{index_holds}
 use Rattle.spec_verify.specs.Order.{is_before, latest, ends_before, before}
+use Rattle.spec_rules.specs.Rules.{KeepsTheRules, VersionKeepsTheRules}
+use Rattle.spec_verify.specs.Rules.{ids_of_rows, last_before, rows_of_image}
 use Rattle.spec_verify.specs.Told.{HoldsOfEach, FailsFirst}
 use Rattle.spec_verify.specs.Versions.{column_as_of, has_columns, respects_not_null, rows_of_columns, says_not_null, with_columns}
 
@@ -145,6 +147,16 @@ IsEncodedAt i id =
     let second = base_rows i.tables 1 in
     Any (λ (def : TableDef). (pos def.id ≡ id) × (is_encoded first second i.defs def ≡ true)) i.defs
 
+-- a version of a user's table keeps the rules of changes, with the version of its key just before it
+abbrev pub VersionRulesHold : Image → TableVersion → Type 0
+VersionRulesHold i x =
+    columns_id < x.0.def.id
+    → VersionKeepsTheRules i.entries (rows_of_image i) (pos x.0.def.id) (last_before i x.0 x.1) x.1
+
+-- the rows about the table with this id keep the rules of changes
+abbrev pub TableRulesHold : Image → ℤ → Type 0
+TableRulesHold i id = KeepsTheRules i.entries (rows_of_image i) id
+
 -- the tables that rows of the system's tables are about, and those that are defined
 abbrev pub ids_of_tables : Image → List ℤ
 ids_of_tables i = all_ids (base_rows i.tables 0) (base_rows i.tables 1) i.defs
@@ -178,5 +190,7 @@ pub record HoldsTogether (h : List ℕ → List ℕ) (i : Image) (digests : List
   pub events : AllByRecursion (HasEntry i.entries) (events_of_image i)
   pub entries : AllByRecursion (EntryHolds h i) i.entries
   pub versions : AllByRecursion (VersionHolds i) (versions_of_image i)
+  pub version_rules : AllByRecursion (VersionRulesHold i) (versions_of_image i)
   pub definitions : AllByRecursion (IsEncodedAt i) (ids_of_tables i)
+  pub table_rules : AllByRecursion (TableRulesHold i) (ids_of_rows i)
   pub indexes : AllByRecursion IndexesHold (defs_and_rows i)

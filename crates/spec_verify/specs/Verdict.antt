@@ -11,6 +11,7 @@ use Rattle.spec_verify.specs.Blocks.{digest_fault, chain_fault, block_fault}
 use Rattle.spec_verify.specs.Entries.{id_fault, root_fault}
 use Rattle.spec_verify.specs.Versions.{version_fault}
 use Rattle.spec_verify.specs.Definitions.{definition_fault}
+use Rattle.spec_verify.specs.Rules.{row_fault, catalog_fault, table_rule_fault, version_rule_fault}
 use Rattle.spec_verify.specs.Indexes.{index_fault}
 
 -- an invariant, and the least place at which it fails, if it does
@@ -30,7 +31,7 @@ first_failed (t ∷ ts) = failed_or t.0 t.1 (first_failed ts)
 abbrev pub all_tried : (List ℕ → List ℕ) → Image → List HeldDigest → List Tried
 all_tried h i digests =
     (V1, digest_fault h i digests) ∷ (V2, chain_fault h i) ∷ (V3, block_fault h i) ∷ (V4, id_fault i)
-    ∷ (V5, root_fault h i) ∷ (V6, version_fault i) ∷ (V7, definition_fault i) ∷ (V8, index_fault i) ∷ []
+    ∷ (V5, root_fault h i) ∷ (V6, row_fault i) ∷ (V7, catalog_fault i) ∷ (V8, index_fault i) ∷ []
 
 -- of an image and digests; that the bytes are those of an image comes before
 unfoldable pub image_verdict : (List ℕ → List ℕ) → Image → List HeldDigest → Verdict
@@ -44,5 +45,7 @@ pub record AllHold (h : List ℕ → List ℕ) (i : Image) (digests : List HeldD
   pub ids : id_fault i ≡ None
   pub roots : root_fault h i ≡ None
   pub versions : version_fault i ≡ None
+  pub version_rules : version_rule_fault i ≡ None
   pub definitions : definition_fault i ≡ None
+  pub table_rules : table_rule_fault i ≡ None
   pub indexes : index_fault i ≡ None

@@ -16,11 +16,10 @@ ghost use Rattle.spec_verify.specs.declared.place.Verdict.TheVariants.{Yes, No};
 ghost use Rattle.spec_verify.specs.Blocks.{digest_fault, chain_fault, block_fault, entries_before};
 ghost use Rattle.spec_verify.specs.Bytes.{verdict_of};
 ghost use Rattle.spec_verify.specs.Covered.{AgreeUpTo, SayTheSameUpTo, covered_of, with_more};
-ghost use Rattle.spec_verify.specs.Definitions.{definition_fault};
 ghost use Rattle.spec_verify.specs.Entries.{id_fault, root_fault};
 ghost use Rattle.spec_verify.specs.Indexes.{index_fault};
+ghost use Rattle.spec_verify.specs.Rules.{row_fault, catalog_fault};
 ghost use Rattle.spec_verify.specs.Verdict.{image_verdict, AllHold};
-ghost use Rattle.spec_verify.specs.Versions.{version_fault};
 
 /// The invariants are tried in order, from V1 to V8, and the first that fails is named, with its place. Where
 /// none fails the verdict is Yes.
@@ -41,15 +40,15 @@ pub fn the_first_invariant_that_fails_is_named()
         → id_fault i ≡ None → root_fault h i ≡ Some p → image_verdict h i digests ≡ No V5 p }
     ensures versions { (h : List ℕ → List ℕ) (i : Image) (digests : List HeldDigest) (p : Place)
         → digest_fault h i digests ≡ None → chain_fault h i ≡ None → block_fault h i ≡ None
-        → id_fault i ≡ None → root_fault h i ≡ None → version_fault i ≡ Some p
+        → id_fault i ≡ None → root_fault h i ≡ None → row_fault i ≡ Some p
         → image_verdict h i digests ≡ No V6 p }
     ensures definitions { (h : List ℕ → List ℕ) (i : Image) (digests : List HeldDigest) (p : Place)
         → digest_fault h i digests ≡ None → chain_fault h i ≡ None → block_fault h i ≡ None
-        → id_fault i ≡ None → root_fault h i ≡ None → version_fault i ≡ None
-        → definition_fault i ≡ Some p → image_verdict h i digests ≡ No V7 p }
+        → id_fault i ≡ None → root_fault h i ≡ None → row_fault i ≡ None
+        → catalog_fault i ≡ Some p → image_verdict h i digests ≡ No V7 p }
     ensures indexes { (h : List ℕ → List ℕ) (i : Image) (digests : List HeldDigest) (p : Place)
         → digest_fault h i digests ≡ None → chain_fault h i ≡ None → block_fault h i ≡ None
-        → id_fault i ≡ None → root_fault h i ≡ None → version_fault i ≡ None → definition_fault i ≡ None
+        → id_fault i ≡ None → root_fault h i ≡ None → row_fault i ≡ None → catalog_fault i ≡ None
         → index_fault i ≡ Some p → image_verdict h i digests ≡ No V8 p }
     ensures none { (h : List ℕ → List ℕ) (i : Image) (digests : List HeldDigest)
         → AllHold h i digests → image_verdict h i digests ≡ Yes }
