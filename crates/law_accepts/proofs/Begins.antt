@@ -21,7 +21,7 @@ below_by : (other id : ℕ) (is : List JournalItem) (b : Bool) → (other == id)
 below_by other id is true e has lt = omega arith
 below_by other id is false e has lt = omega (arith, lt)
 
-has_place : (J : List JournalItem) (id : ℕ) → HasTx J id → place_in J id < tx_count J
+pub has_place : (J : List JournalItem) (id : ℕ) → HasTx J id → place_in J id < tx_count J
 has_place [] id has = absurd has
 has_place (Tx other session time explicit lines ∷ is) id has = elim has [
   | inl e ↦ rw (eq-eqb other id e) (omega arith)
@@ -29,7 +29,7 @@ has_place (Tx other session time explicit lines ∷ is) id has = elim has [
 ]
 has_place (Close k ∷ is) id has = has_place is id has
 
-comes_next : (J : List JournalItem) (id : ℕ) → AllByRecursion (IsOther id) J → place_in J id ≡ tx_count J
+pub comes_next : (J : List JournalItem) (id : ℕ) → AllByRecursion (IsOther id) J → place_in J id ≡ tx_count J
 comes_next [] id others = refl
 comes_next (Tx other session time explicit lines ∷ is) id others = rw (ne_eqb other id others.0) (ap suc (comes_next is id others.1))
 comes_next (Close k ∷ is) id others = comes_next is id others.1

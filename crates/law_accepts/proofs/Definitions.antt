@@ -27,7 +27,7 @@ use Rattle.law_accepts.proofs.FilledTables.{all_stay}
 use Rattle.law_accepts.proofs.Shown.{in_front}
 
 -- the rows of the tables of the system are whole, since their last columns may not be NULL
-first_whole : (items : List JournalItem) (t : Table) → t.def ≡ tables_def → TableOf items t → map (filled_version t.def.columns) t.versions ≡ t.versions
+pub first_whole : (items : List JournalItem) (t : Table) → t.def ≡ tables_def → TableOf items t → map (filled_version t.def.columns) t.versions ≡ t.versions
 first_whole items t same is =
     subst (λ (cs : List ColumnDef). AllByRecursion (λ v. FitsSoFar cs v.values) t.versions → map (filled_version cs) t.versions ≡ t.versions) (ap (λ (d : TableDef). d.columns) (sym same))
     (all_stay (take 5 tables_columns) (a_column (codes "view_name") name_type false 0) t.versions refl) is.fit

@@ -145,7 +145,7 @@ of_journal (Tx other session time explicit lines ∷ is) id has = elim has [
 ]
 of_journal (Close k ∷ is) id has = of_journal is id has
 
-all_flat : {A B : Type 0} (P : A → Type 0) (Q : B → Type 0) (f : A → List B) → ((x : A) → P x → AllByRecursion Q (f x)) → (xs : List A) → AllByRecursion P xs → AllByRecursion Q (flat_map f xs)
+pub all_flat : {A B : Type 0} (P : A → Type 0) (Q : B → Type 0) (f : A → List B) → ((x : A) → P x → AllByRecursion Q (f x)) → (xs : List A) → AllByRecursion P xs → AllByRecursion Q (flat_map f xs)
 all_flat P Q f g [] h = tt
 all_flat P Q f g (x ∷ xs) h = subst (AllByRecursion Q) (sym (flat_map-cons f x xs)) (all_append Q (f x) (flat_map f xs) (g x h.0) (all_flat P Q f g xs h.1))
 

@@ -9,8 +9,10 @@ pub mod FilledTables
 mod Firsts
 pub mod Ids
 mod Indexes
+mod OneStatement
 pub mod RoomOfCuts
 mod Roots
+mod Rules
 mod Shown
 pub mod Sizes
 mod Stay

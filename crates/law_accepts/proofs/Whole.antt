@@ -1,16 +1,19 @@
 -- The image of a legal journal holds as a whole, and so the verdict on its bytes is Yes.
 use Rattle.std.proofs.Common.{◌≡◌, ◌<◌, ℕ, refl, sym, ap, ◌∙◌, List, take, drop, inl, inr}
 use Rattle.std.proofs.lemmas.List.{take-append-drop}
+use Rattle.std.specs.List.{AllByRecursion}
 use Rattle.sql_types.specs.declared.digest.HeldDigest.{HeldDigest}
 use Rattle.sql_types.specs.declared.image.Image.{Image}
 use Rattle.sql_types.specs.declared.journal.Journal.{Journal}
 use Rattle.sql_types.specs.declared.journal.JournalItem.{JournalItem}
+use Rattle.sql_types.specs.JournalRules.{ItemRules}
 use Rattle.spec_model.specs.Journals.{cut, IsLegal}
 use Rattle.spec_model.specs.LegalJournals.{IsLegalJournal}
 use Rattle.spec_model.specs.Script.{Reading}
 use Rattle.spec_history.specs.Digests.{Digest, IsDigest}
 use Rattle.spec_history.specs.Journals.{blocks}
 use Rattle.spec_history.specs.Meaning.{Meaning}
+use Rattle.law_frame.proofs.UndoneTables.{first_few as all_take}
 use Rattle.law_journal.proofs.Serials.{cut_legal}
 use Rattle.law_catalog_rows.specs.Written.{ReadsWritten}
 use Rattle.law_blocks.specs.Digests.{digest_of}
@@ -28,7 +31,9 @@ use Rattle.law_accepts.proofs.Blocks.{digests_hold, chain_holds}
 use Rattle.law_accepts.proofs.Definitions.{definitions_hold}
 use Rattle.law_accepts.proofs.Ids.{ids_hold}
 use Rattle.law_accepts.proofs.Indexes.{indexes_hold}
+use Rattle.law_accepts.proofs.OneStatement.{have_one_statement}
 use Rattle.law_accepts.proofs.Roots.{roots_hold}
+use Rattle.law_accepts.proofs.Rules.{no_version_breaks_a_rule, table_rules_hold}
 use Rattle.law_accepts.proofs.Sizes.{blocks_hold}
 use Rattle.law_accepts.proofs.Versions.{versions_hold}
 
@@ -53,16 +58,18 @@ module _ (h : List ℕ → List ℕ) (reads : Reading) where
   -- ---- the verdict
 
   module _ (database : List ℕ) where
-    pub all_hold : (items : List JournalItem) (digests : List HeldDigest) → ReadsWritten reads → IsLegal reads items → AllHeld h reads database items digests
+    pub all_hold : (items : List JournalItem) (digests : List HeldDigest) → ReadsWritten reads → AllByRecursion ItemRules items → IsLegal reads items → AllHeld h reads database items digests
         → AllHold h (image_of h reads database items) digests
-    all_hold items digests written legal all_held = record {
+    all_hold items digests written rules legal all_held = record {
       digests_hold = digests_hold h reads database items digests all_held;
       chain = chain_holds h reads database items;
       blocks = blocks_hold h reads database items legal;
       ids = ids_hold h reads database items legal;
       roots = roots_hold h reads database items legal;
       versions = versions_hold h reads database items legal;
+      version_rules = no_version_breaks_a_rule h reads database items written legal;
       definitions = definitions_hold h reads database items written legal;
+      table_rules = table_rules_hold h reads database items written legal (have_one_statement items rules);
       indexes = indexes_hold h reads database items legal;
     }
 
@@ -72,7 +79,7 @@ module _ (h : List ℕ → List ℕ) (reads : Reading) where
   verifies j m digests written legal all_held is_image =
       let i : Image = image_of_cut h reads j.database j.items m in
       of_image h digests i is_image
-      ∙ (yes_exactly h i digests).1 (all_hold j.database (cut j.items m) digests written (cut_legal reads j.items m legal.legal) all_held)
+      ∙ (yes_exactly h i digests).1 (all_hold j.database (cut j.items m) digests written (all_take ItemRules m j.items legal.items) (cut_legal reads j.items m legal.legal) all_held)
 
   pub verifies_1 : (j : Journal) (m : ℕ) (digests : List HeldDigest) → ReadsWritten reads → IsLegalJournal reads j → AllHeld h reads j.database (cut j.items m) digests
       → IsImage1 (image_of_cut h reads j.database j.items m)

@@ -1,9 +1,11 @@
 //! Laws of the images of legal journals.
 
-ghost use Rattle.std.specs.Prelude.{ℕ, ◌≡◌, ◌<◌, List, None};
+ghost use Rattle.std.specs.Prelude.{ℕ, ◌≡◌, ◌<◌, true, List, None};
+ghost use Rattle.std.specs.List.{AllByRecursion};
 ghost use Rattle.sql_types.specs.declared.digest.HeldDigest.{HeldDigest};
 ghost use Rattle.sql_types.specs.declared.journal.Journal.{Journal};
 ghost use Rattle.sql_types.specs.declared.journal.JournalItem.{JournalItem};
+ghost use Rattle.sql_types.specs.JournalRules.{ItemRules};
 ghost use Rattle.spec_model.specs.Journals.{cut, IsLegal};
 ghost use Rattle.spec_model.specs.LegalJournals.{IsLegalJournal};
 ghost use Rattle.spec_model.specs.Script.{Reading};
@@ -17,6 +19,8 @@ ghost use Rattle.spec_ledger.specs.Ledger.{block_hash};
 ghost use Rattle.format_image.specs.Image.{image_of, image_of_cut};
 ghost use Rattle.format_image.specs.ImageBytes.{image_bytes, image_bytes_1, IsImage, IsImage1};
 ghost use Rattle.law_image.specs.Room.{FitsImageFormat};
+ghost use Rattle.spec_rules.specs.OneStatement.{one_statement};
+ghost use Rattle.law_rules.specs.Alone.{HasOneStatement};
 ghost use Rattle.spec_verify.specs.declared.place.Verdict.TheVariants.{Yes};
 ghost use Rattle.spec_verify.specs.Blocks.{digest_fault, chain_fault, block_fault};
 ghost use Rattle.spec_verify.specs.Bytes.{verdict_of};
@@ -24,6 +28,7 @@ ghost use Rattle.spec_verify.specs.Definitions.{definition_fault};
 ghost use Rattle.spec_verify.specs.Entries.{id_fault, root_fault};
 ghost use Rattle.spec_verify.specs.Indexes.{index_fault};
 ghost use Rattle.spec_verify.specs.Verdict.{AllHold};
+ghost use Rattle.spec_verify.specs.Rules.{ids_of_rows, rows_of_image};
 ghost use Rattle.spec_verify.specs.Versions.{version_fault};
 ghost use Rattle.law_accepts.specs.Held.{held, IsHeld, AllHeld};
 
@@ -96,6 +101,15 @@ pub fn honest_definitions_hold()
         → definition_fault (image_of h reads database items) ≡ None }
 {}
 
+/// Each transaction of a legal journal that enters rows in the system's tables is one statement about one table. It
+/// has events in the system's tables alone. So it is if each transaction that BEGIN did not open has one statement.
+pub fn honest_changes_are_of_one_statement()
+    ensures { (h : List ℕ → List ℕ) (reads : Reading) (database : List ℕ) (items : List JournalItem)
+        → ReadsWritten reads → IsLegal reads items → AllByRecursion HasOneStatement items
+        → let i = image_of h reads database items in
+        AllByRecursion (λ t. one_statement i.entries (rows_of_image i) t ≡ true) (ids_of_rows i) }
+{}
+
 /// The rows of each index in a legal journal's image are those of its table's base, sorted.
 pub fn honest_indexes_hold()
     ensures { (h : List ℕ → List ℕ) (reads : Reading) (database : List ℕ) (items : List JournalItem)
@@ -104,12 +118,13 @@ pub fn honest_indexes_hold()
 
 // ---- all of them
 
-/// So nothing is at fault in the image of a legal journal with digests of its closed blocks, where each statement
-/// that is read is one that the grammar may have written.
+/// So nothing is at fault in the image of a legal journal with digests of its closed blocks, if each statement that is
+/// read is one that the grammar may have written, and each item keeps the rules of a journal's items.
 pub fn images_of_legal_journals_hold()
     ensures { (h : List ℕ → List ℕ) (reads : Reading) (database : List ℕ) (items : List JournalItem)
         (digests : List HeldDigest)
-        → ReadsWritten reads → IsLegal reads items → AllHeld h reads database items digests
+        → ReadsWritten reads → AllByRecursion ItemRules items → IsLegal reads items
+        → AllHeld h reads database items digests
         → AllHold h (image_of h reads database items) digests }
 {}
 
