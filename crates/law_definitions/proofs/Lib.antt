@@ -1,0 +1,5 @@
+mod AfterDrop
+mod AppendOnly
+mod Bases
+mod KeysAndTypes
+mod Lists
