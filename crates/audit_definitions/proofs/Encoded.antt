@@ -16,7 +16,7 @@ use Rattle.spec_verify.specs.Definitions.{base_rows, table_place, definition_fau
 use Rattle.audit_definitions.specs.DefinitionRows.{base_in, ids_encoded, is_missing, rows_in}
 use Rattle.audit_definitions.proofs.Walks.{least_append, take_here}
 
-base_is : (rows : List TableRows) (k : ℕ) → base_rows rows k ≡ rows_in (base_in rows k)
+pub base_is : (rows : List TableRows) (k : ℕ) → base_rows rows k ≡ rows_in (base_in rows k)
 base_is [] k = refl
 base_is (r ∷ rs) zero = refl
 base_is (r ∷ rs) (suc k) = base_is rs k
@@ -50,12 +50,16 @@ any_of_ids p id (d ∷ ds) = here (p d) (any_of_ids p id ds)
     here true more = ap (λ r. int_eq (pos d.id) id || r) more ∙ both_or (int_eq (pos d.id) id) (has_passing p id ds)
     here false more = more ∙ neither_or (int_eq (pos d.id) id) (has_passing p id ds)
 
--- an id is wrong where it is none of those that are spelled
+-- an id is wrong if it is none of those that are spelled
+pub missing_is : (first second : List Row) (defs : Defs) (ids : List ℕ) → ids ≡ ids_encoded first second defs → (id : ℤ)
+    → is_missing ids id ≡ is_wrong first second defs id
+missing_is first second defs ids are id =
+    ap (λ (l : List ℕ). is_missing l id) are ∙ ap not (any_of_ids (is_encoded first second defs) id defs)
+
 pub least_missing : (first second : List Row) (defs : Defs) (ids : List ℕ) → ids ≡ ids_encoded first second defs → (best : Option ℤ) (xs : List ℤ)
     → least_from int_cmp best (filter (is_missing ids) xs) ≡ least_from int_cmp best (filter (is_wrong first second defs) xs)
 least_missing first second defs ids are best xs =
-    ap (λ (l : List ℕ). least_from int_cmp best (filter (is_missing l) xs)) are
-    ∙ ap (λ (p : ℤ → Bool). least_from int_cmp best (filter p xs)) (λ i id. not (any_of_ids (is_encoded first second defs) id defs i))
+    ap (λ (p : ℤ → Bool). least_from int_cmp best (filter p xs)) (λ i id. missing_is first second defs ids are id i)
 
 -- a definition that is spelled, and one that isn't
 pub one_spelled : (p : TableDef → Bool) (d : TableDef) (b : Bool) (old new : List ℕ) → b ≡ p d → b ≡ true → new ≡ old ++ d.id ∷ []

@@ -3,7 +3,7 @@ mod FirstValues
 mod LatestDefs
 mod LatestRows
 mod RuleGroups
-mod Encoded
+pub mod Encoded
 pub mod Verdicts
 pub mod Walks
 mod ZeroAt

@@ -1,12 +1,11 @@
 -- Rows of the tables of the system, as values that are asked for one by one.
-use Rattle.std.specs.Prelude.{ℕ, zero, suc, ℤ, pos, FitsSigned, ◌&&◌, ◌==◌, not, Bool, List, [], ◌∷◌, map, length, Option, Some, None, IfSome}
+use Rattle.std.specs.Prelude.{ℕ, ℤ, pos, FitsSigned, ◌&&◌, ◌==◌, not, Bool, List, [], ◌∷◌, map, length, Option, Some, None, IfSome}
 use Rattle.std.specs.Borrow.{Bor}
 use Rattle.std.specs.List.{filter, list_all, list_any}
 use Rattle.std.specs.Int.{w64}
 use Rattle.std.specs.Ordering.{int_eq}
 use Rattle.sql_value.specs.declared.value.Value.{Value}
 use Rattle.sql_value.specs.declared.value.Value.TheVariants as values
-use Rattle.sql_types.specs.declared.image.TableRows.{TableRows}
 use Rattle.sql_types.specs.declared.table.TableDef.{TableDef}
 use Rattle.sql_types.specs.declared.version.Version.{Version}
 use Rattle.spec_model.specs.Catalog.{Defs}
@@ -16,6 +15,7 @@ use Rattle.law_catalog_rows.specs.Differs.{encode_def, is_encoded, table_of}
 use Rattle.law_catalog_rows.specs.Encoded.{about, latest_table_row, latest_item_rows}
 use Rattle.law_catalog_rows.specs.Changes.{follows}
 use Rattle.law_catalog_rows.specs.Latest.{without_change}
+pub use Rattle.spec_verify.specs.Definitions.{base_in}
 use Rattle.audit_definitions.specs.declared.items.ExpectedValue.{ExpectedValue}
 use Rattle.audit_definitions.specs.declared.items.ExpectedValue.TheVariants as wants
 
@@ -41,12 +41,6 @@ has_row rows row = list_any (same_key row) rows
 -- the number of the table that the row is about has 64 bits
 abbrev pub HasSmallId : Version → Type 0
 HasSmallId v = IfSome (table_of (values_of v)) (λ n. FitsSigned w64 n)
-
--- the base rows of the table at this place; of no table there are none
-abbrev pub base_in : List TableRows → ℕ → List Version
-base_in [] k = []
-base_in (rows ∷ more) zero = rows.base
-base_in (rows ∷ more) (suc k) = base_in more k
 
 -- one of these rows says this, whatever its change, which stands behind the place
 abbrev pub is_said : ℕ → List Row → Row → Bool

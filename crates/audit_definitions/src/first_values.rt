@@ -9,7 +9,7 @@ use sql_types::{TypedValue, Version};
 use sql_value::Value;
 
 /// The number that is the first value of the row, if one is.
-pub(crate) fn table_of(version: &Version) -> Option<i128>
+pub fn table_of(version: &Version) -> Option<i128>
     ensures { result ≡ table_of (values_of version.now) }
 {
     match version.values.as_slice() {

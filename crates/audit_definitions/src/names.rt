@@ -16,7 +16,7 @@ use sql_types::{IndexDef, TableDef, TypedValue, Version};
 use sql_value::{ColumnDef, TableKind, Value};
 
 /// Whether the bytes are a name: 1 to 128 of them, from a blank to `~` without the brackets.
-pub(crate) fn is_proper_name(name: &[u8]) -> bool
+pub fn is_proper_name(name: &[u8]) -> bool
     ensures { result ≡ spec.is_proper_name name.now }
 {
     !name.is_empty() && name.len() <= 128 && are_name_bytes(name)
@@ -48,10 +48,9 @@ pub(crate) fn has_its_history(kind: TableKind, history: &[u8]) -> bool
 const ADDED: &str = "ledger_";
 
 /// Whether the name begins as those of the columns that the ledger adds.
-pub(crate) fn is_ledger_name(name: &Name) -> bool
-    ensures { result ≡ create.is_ledger_name name.now }
+pub fn is_ledger_name(bytes: &[u8]) -> bool
+    ensures { result ≡ create.is_ledger_name bytes.now }
 {
-    let bytes = name.bytes();
     let head = &bytes[..bytes.len().min(ADDED.len())];
     head.eq_ignore_ascii_case(ADDED.as_bytes())
 }
@@ -131,15 +130,16 @@ pub(crate) fn has_new_names(rows: &[&Version], def: &TableDef) -> bool
 fn has_system_name(def: &TableDef) -> bool
     ensures { result ≡ spec.share_name (create.all_names (tables_def ∷ columns_def ∷ [])) def.now }
 {
-    is_given(&def.name) && is_system_name(&def.name)
-        || is_given(&def.history) && is_system_name(&def.history)
-        || is_given(&def.view) && is_system_name(&def.view)
+    is_given(&def.name) && is_system_name(def.name.bytes())
+        || is_given(&def.history) && is_system_name(def.history.bytes())
+        || is_given(&def.view) && is_system_name(def.view.bytes())
 }
 
-fn is_system_name(name: &Name) -> bool
+/// Whether a table of the system has this name.
+pub fn is_system_name(name: &[u8]) -> bool
     ensures { result ≡ has_name (create.all_names (tables_def ∷ columns_def ∷ [])) name.now }
 {
-    "sys_ledger_tables" == name.as_str() || "sys_ledger_columns" == name.as_str()
+    "sys_ledger_tables".as_bytes() == name || "sys_ledger_columns".as_bytes() == name
 }
 
 fn has_older_name(rows: &[&Version], def: &TableDef) -> bool
@@ -174,12 +174,13 @@ fn is_before(id: u32, version: &Version) -> bool
 fn shares_name(version: &Version, def: &TableDef) -> bool
     ensures { result ≡ spec.share_name (spec.names_in (values_of version.now)) def.now }
 {
-    is_given(&def.name) && row_has_name(version, &def.name)
-        || is_given(&def.history) && row_has_name(version, &def.history)
-        || is_given(&def.view) && row_has_name(version, &def.view)
+    is_given(&def.name) && row_has_name(version, def.name.bytes())
+        || is_given(&def.history) && row_has_name(version, def.history.bytes())
+        || is_given(&def.view) && row_has_name(version, def.view.bytes())
 }
 
-fn row_has_name(version: &Version, name: &Name) -> bool
+/// Whether the name stands in the row of the table of tables.
+pub fn row_has_name(version: &Version, name: &[u8]) -> bool
     ensures { result ≡ has_name (spec.names_in (values_of version.now)) name.now }
 {
     for value in version.values.as_slice() {
@@ -190,7 +191,7 @@ fn row_has_name(version: &Version, name: &Name) -> bool
     false
 }
 
-fn is_text(value: &Option<TypedValue>, name: &Name) -> bool
+fn is_text(value: &Option<TypedValue>, name: &[u8]) -> bool
     ensures { result ≡ has_name (filter_map spec.text_of (value_or_null value.now ∷ [])) name.now }
 {
     match value {
@@ -199,7 +200,7 @@ fn is_text(value: &Option<TypedValue>, name: &Name) -> bool
                 value: Value::Text(text),
                 ..
             },
-        ) => text.bytes() == name.bytes(),
+        ) => text.bytes() == name,
         _ => false,
     }
 }

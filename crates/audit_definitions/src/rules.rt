@@ -124,7 +124,9 @@ fn are_encodable_columns(columns: &[ColumnDef]) -> bool
 fn is_encodable_column(column: &ColumnDef) -> bool
     ensures { result ≡ spec.is_encodable_column column.now }
 {
-    column.ty.is_in_range() && is_proper_name(column.name.bytes()) && !is_ledger_name(&column.name)
+    column.ty.is_in_range()
+        && is_proper_name(column.name.bytes())
+        && !is_ledger_name(column.name.bytes())
 }
 
 fn has_null_key(columns: &[ColumnDef]) -> bool

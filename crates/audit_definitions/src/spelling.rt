@@ -50,7 +50,7 @@ fn fault_of(
 }
 
 /// The base rows of the table at this place; of no table there are none.
-fn base_at(image: &Image, place: usize) -> &[Version]
+pub fn base_at(image: &Image, place: usize) -> &[Version]
     ensures { result.now ≡ base_in image.now.tables place }
 {
     match image.tables.get(place) {
@@ -59,7 +59,8 @@ fn base_at(image: &Image, place: usize) -> &[Version]
     }
 }
 
-fn table_place(id: Option<i64>) -> Option<Place>
+/// The place of the table.
+pub fn table_place(id: Option<i64>) -> Option<Place>
     ensures { result ≡ verdict.table_place id }
 {
     match id {
@@ -70,7 +71,7 @@ fn table_place(id: Option<i64>) -> Option<Place>
 
 /// The ids of the definitions that the rows spell. Takes room for 32 ids at most, since no two definitions of
 /// an image have one id, and sorts the rows of the first table once.
-fn ids_encoded(
+pub fn ids_encoded(
     alloc: Global,
     first: &[Version],
     second: &[Version],
@@ -220,7 +221,8 @@ fn small_table(version: &Version) -> Option<i64>
     }
 }
 
-fn worst_row(spelled: &[TableId], versions: &[Version], worst: Option<i64>) -> Option<i64>
+/// The least so far of the tables that none of these ids is, and of such tables that these rows are about.
+pub fn worst_row(spelled: &[TableId], versions: &[Version], worst: Option<i64>) -> Option<i64>
     requires { AllByRecursion HasSmallId versions.now }
     ensures { result ≡ least_from int_cmp worst
         (filter (is_missing spelled.now) (filter_map spec.table_of (rows_in versions.now))) }
@@ -236,7 +238,8 @@ fn worst_row(spelled: &[TableId], versions: &[Version], worst: Option<i64>) -> O
     worst
 }
 
-fn worst_def(spelled: &[TableId], defs: &[TableDef], worst: Option<i64>) -> Option<i64>
+/// The least so far of the tables that none of these ids is, and of such tables that are defined.
+pub fn worst_def(spelled: &[TableId], defs: &[TableDef], worst: Option<i64>) -> Option<i64>
     ensures { result ≡ least_from int_cmp worst
         (filter (is_missing spelled.now) (map (λ d. pos d.id) defs.now)) }
 {
