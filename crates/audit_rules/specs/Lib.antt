@@ -1,0 +1,9 @@
+pub mod ByPosition
+pub mod Catalog
+pub mod Faults
+pub mod FirstRanks
+pub mod HappenedLists
+pub mod InForce
+pub mod InTime
+pub mod Seen
+pub mod Times
