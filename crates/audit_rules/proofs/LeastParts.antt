@@ -34,7 +34,7 @@ module _ {E : Type 0} (cmp : E → E → Ordering) (total : IsTotalOrder cmp) (s
       here Equal e = ap₂ (λ a b. put (Some a) b) (same x y e) (sym (same x y e))
       here Greater e = rw (e, back x y Greater e) refl
 
-  swap : (best : Option E) (x y : E) → put (put best x) y ≡ put (put best y) x
+  pub swap : (best : Option E) (x y : E) → put (put best x) y ≡ put (put best y) x
   swap None x y = two x y
   swap (Some m) x y = here (is_gt (cmp m x)) refl (is_gt (cmp m y)) refl
     where
@@ -67,7 +67,7 @@ module _ {E : Type 0} (cmp : E → E → Ordering) (total : IsTotalOrder cmp) (s
       here true e = ap (λ r. cond (is_gt r) (Some x) (Some x)) (tied_itself total x)
       here false e = ap (λ t. cond t (Some x) (Some m)) e
 
-  to_end : (best : Option E) (x : E) (xs : List E) → least_from cmp (put best x) xs ≡ put (least_from cmp best xs) x
+  pub to_end : (best : Option E) (x : E) (xs : List E) → least_from cmp (put best x) xs ≡ put (least_from cmp best xs) x
   to_end best x [] = refl
   to_end best x (y ∷ ys) = ap (λ b. least_from cmp b ys) (swap best x y) ∙ to_end (put best y) x ys
 

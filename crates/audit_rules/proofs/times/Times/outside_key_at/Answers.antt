@@ -1,0 +1,6 @@
+use Rattle.std.proofs.Common.{IsSorted, sym, subst}
+use Rattle.audit_rules.specs.FirstRanks.{happened_cmp}
+use Rattle.audit_rules.proofs.times.Times.outside_key_at.Goals as goal
+
+pub first_rank-requires : goal.first_rank-requires
+first_rank-requires c = subst (IsSorted happened_cmp) (sym c.deref.ensures.value) c.self.invariant.outside_key
