@@ -15,26 +15,22 @@ use Rattle.spec_verify.specs.declared.place.Place.{Place}
 use Rattle.spec_verify.specs.Entries.{TableEvent, event_place, least_event, root_fault, table_event_cmp}
 use Rattle.spec_verify.specs.Groups.{Found, found_cmp}
 use Rattle.spec_verify.specs.Indexes.{first_table, index_fault, table_fault}
-use Rattle.spec_verify.specs.Versions.{bad_versions, rows_of_columns, version_fault}
+use Rattle.spec_verify.specs.Rules.{row_fault}
 use Rattle.spec_verify.proofs.Leasts.{least_split}
 use Rattle.spec_verify.proofs.ToldEntries.{table_event_total}
 use Rattle.audit_roots.specs.declared.groups.Fault.{Fault}
 use Rattle.audit_verify.specs.declared.groups.GroupFaults.{GroupFaults}
 use Rattle.audit_roots.specs.declared.shown.ImageTable.{ImageTable}
-use Rattle.audit_verify.specs.Groups.{AreFaults, event_at, if_none, index_in, lesser_version, version_in}
+use Rattle.audit_verify.specs.Groups.{AreFaults, faulty, if_none, index_in, lesser_version, version_in}
 use Rattle.audit_roots.specs.Groups.{fault_place, group_of, left_over, merged, wrong_root}
 use Rattle.audit_roots.specs.ImageTable.{def_of, rows_of, table_of, AreImageTables}
 use Rattle.audit_roots.proofs.FirstParts.{or_else_assoc}
 use Rattle.audit_roots.proofs.MergedFaults.{fault_is_merged, groups_merge}
 use Rattle.audit_roots.proofs.Parts.{empty, side_by_side, take_whole}
 use Rattle.audit_roots.proofs.Tables.{are_tables}
+use Rattle.audit_verify.proofs.RowFaults.{faults_are, named}
 
 -- ---- side by side
-
--- the event that the place of an event names
-named : (e : Option TableEvent) → event_at (event_place e) ≡ e
-named None = refl
-named (Some e) = refl
 
 module _ (from a b : ℕ) (i : Image) where
   pub roots_together : (h : List ℕ → List ℕ)
@@ -43,11 +39,11 @@ module _ (from a b : ℕ) (i : Image) where
       ap (λ (ts : Tables). wrong_root h ts i.entries) (side_by_side from a b (tables_in i))
       ∙ groups_merge h (group_of from a i) (group_of (from + a) b i) i.entries
 
-  pub versions_together : version_in i.entries (rows_of_columns i.tables) (group_of from (a + b) i) ≡ lesser_version (version_in i.entries (rows_of_columns i.tables) (group_of from a i)) (version_in i.entries (rows_of_columns i.tables) (group_of (from + a) b i))
+  pub versions_together : version_in i (group_of from (a + b) i) ≡ lesser_version (version_in i (group_of from a i)) (version_in i (group_of (from + a) b i))
   versions_together =
-      let bad = λ (ts : Tables). flat_map (bad_versions i.entries (rows_of_columns i.tables)) ts in
-      ap (version_in i.entries (rows_of_columns i.tables)) (side_by_side from a b (tables_in i))
-      ∙ ap least_event (flat_map-append (bad_versions i.entries (rows_of_columns i.tables)) (group_of from a i) (group_of (from + a) b i))
+      let bad = λ (ts : Tables). flat_map (faulty i) ts in
+      ap (version_in i) (side_by_side from a b (tables_in i))
+      ∙ ap least_event (flat_map-append (faulty i) (group_of from a i) (group_of (from + a) b i))
       ∙ ap event_place (least_split table_event_cmp table_event_total (bad (group_of from a i)) (bad (group_of (from + a) b i)))
       ∙ ap₂ (λ (x y : Option TableEvent). event_place (lesser_of table_event_cmp x y)) (sym (named (least table_event_cmp (bad (group_of from a i))))) (sym (named (least table_event_cmp (bad (group_of (from + a) b i)))))
 
@@ -106,10 +102,10 @@ both_looked v w p q x y =
     ∙ ap₂ (λ (a b : Option TableEvent). if_none (event_place (lesser_of table_event_cmp a b)) (or_else p q)) (sym (named x.0)) (sym (named y.0))
     ∙ ap₂ (λ (a b : Option Place). if_none (lesser_version a b) (or_else p q)) (sym x.1) (sym y.1)
 
-pub indexes_together : (from a b : ℕ) (i : Image) (v w : Option Place) → v ≡ version_in i.entries (rows_of_columns i.tables) (group_of from a i) → w ≡ version_in i.entries (rows_of_columns i.tables) (group_of (from + a) b i)
+pub indexes_together : (from a b : ℕ) (i : Image) (v w : Option Place) → v ≡ version_in i (group_of from a i) → w ≡ version_in i (group_of (from + a) b i)
     → if_none (lesser_version v w) (or_else (if_none v (index_in from a i)) (if_none w (index_in (from + a) b i))) ≡ if_none (lesser_version v w) (index_in from (a + b) i)
 indexes_together from a b i v w v_is w_is =
-    both_looked v w (index_in from a i) (index_in (from + a) b i) (least table_event_cmp (flat_map (bad_versions i.entries (rows_of_columns i.tables)) (group_of from a i)), v_is) (least table_event_cmp (flat_map (bad_versions i.entries (rows_of_columns i.tables)) (group_of (from + a) b i)), w_is)
+    both_looked v w (index_in from a i) (index_in (from + a) b i) (least table_event_cmp (flat_map (faulty i) (group_of from a i)), v_is) (least table_event_cmp (flat_map (faulty i) (group_of (from + a) b i)), w_is)
     ∙ ap (if_none (lesser_version v w)) (sym (indexes_split from a b i))
 
 -- ---- groups
@@ -150,9 +146,8 @@ module _ (ts : List ImageTable) (i : Image) (shown : AreImageTables ts i) where
       (all_of (length i.tables) i.tables refl)
 
   module _ (h : List ℕ → List ℕ) (n : ℕ) (n_is : n ≡ length i.tables) (f : GroupFaults) (faults : AreFaults h 0 n i f) where
-    pub all_versions : f.version ≡ version_fault i
-    unfolding version_fault
-    all_versions = faults.version ∙ ap (λ (k : ℕ). version_in i.entries (rows_of_columns i.tables) (group_of 0 k i)) n_is ∙ ap (version_in i.entries (rows_of_columns i.tables)) whole_group
+    pub all_versions : f.version ≡ row_fault i
+    all_versions = faults.version ∙ ap (λ (k : ℕ). version_in i (group_of 0 k i)) n_is ∙ ap (version_in i) whole_group ∙ faults_are i
 
     pub all_indexes : f.index ≡ if_none f.version (index_fault i)
     all_indexes = faults.index ∙ ap (if_none f.version) (ap (λ (k : ℕ). index_in 0 k i) n_is ∙ whole_index)

@@ -5,6 +5,7 @@ use Rattle.std.proofs.lemmas.Bool.{true≢false, eqb-true, eq-eqb}
 use Rattle.std.proofs.lemmas.List.{get_or_default}
 use Rattle.std.specs.Prelude.{◌&&◌, ◌||◌, ◌==◌, not, is_none, is_some, option_map, IfSome}
 use Rattle.std.specs.Cmp.{IsTotalOrder, on_total, then_total, nat_cmp_total}
+use Rattle.std.specs.Borrow.{Bor}
 use Rattle.std.specs.List.{AllByRecursion, list_any}
 use Rattle.std.specs.declared.cmp.Ordering.TheVariants.{Less, Equal, Greater}
 use Rattle.std.specs.Ordering.{is_eq, nat_cmp, ordering_then}
@@ -21,7 +22,7 @@ use Rattle.spec_verify.specs.Order as spec
 use Rattle.spec_verify.proofs.SystemRows.{then_equal as then_both}
 use Rattle.audit_verify.specs.declared.order.EarlierVersions.{EarlierVersions}
 use Rattle.audit_verify.specs.declared.order.VersionWithRanks.{VersionWithRanks}
-use Rattle.audit_verify.specs.Order.{IsRanked, KnowsEarlier, KnowsBefore, version_of, start_cmp, key_order, ranked_cmp, openness, rank_before, is_open, earlier_of, any_open, ends_well, follows, is_ordered_after, is_ordered_among}
+use Rattle.audit_verify.specs.Order.{IsRanked, KnowsEarlier, KnowsBefore, version_of, start_cmp, key_order, ranked_cmp, openness, rank_before, is_open, earlier_of, last_version, any_open, ends_well, follows, is_ordered_after, is_ordered_among}
 use Rattle.audit_columns.specs.Positions.{Rank, rank_of}
 use Rattle.audit_columns.specs.Runs as runs
 use Rattle.audit_columns.specs.Runs.{Neighbours}
@@ -51,26 +52,33 @@ ties_open x y e = open_by x.end y.end (then_both (event_cmp x.start y.start) _ e
 -- ---- what the pass knows
 
 module _ (columns : List ColumnDef) (all : List VersionWithRanks) where
-  nothing : (v : VersionWithRanks) (e : EarlierVersions) → earlier_of columns all v ≡ [] → e.latest ≡ None → e.any_open ≡ false → KnowsEarlier columns all v e
-  nothing v e none latest open_ = record {
+  abbrev latest_of : List VersionWithRanks → Option VersionWithRanks
+  latest_of = runs.latest (key_order columns) start_cmp
+
+  abbrev seen_last : Option (Bor Version) → Option Version
+  seen_last o = option_map (λ (w : Bor Version). w.now) o
+
+  nothing : (v : VersionWithRanks) (e : EarlierVersions) → earlier_of columns all v ≡ [] → e.latest ≡ None → e.last ≡ None → e.any_open ≡ false → KnowsEarlier columns all v e
+  nothing v e none latest last open_ = record {
+    last = ap seen_last last ∙ sym (ap (λ l. option_map version_of (latest_of l)) none);
     latest = latest ∙ sym (ap (λ l. option_map (λ (w : VersionWithRanks). w.end) (runs.latest (key_order columns) start_cmp l)) none);
     some_open = open_ ∙ sym (ap (list_any is_open) none);
   }
 
-  pub knows_first : (d : VersionWithRanks) (e : EarlierVersions) → IsSorted (ranked_cmp columns) all → 0 < length all → e.latest ≡ None → e.any_open ≡ false
+  pub knows_first : (d : VersionWithRanks) (e : EarlierVersions) → IsSorted (ranked_cmp columns) all → 0 < length all → e.latest ≡ None → e.last ≡ None → e.any_open ≡ false
       → KnowsEarlier columns all (get_or all 0 d) e
-  knows_first d e up some latest open_ =
+  knows_first d e up some latest last open_ =
       let v = get_or all 0 d in
       nothing v e (ap (runs.earlier (key_order columns) start_cmp v) (first_is (ranked_cmp columns) (ranked_total columns) all up d some)
-      ∙ law.first_of_all (key_order columns) start_cmp (keys_total columns) starts_total v (drop 1 all) (behind_first (ranked_cmp columns) (ranked_total columns) all up d some)) latest open_
+      ∙ law.first_of_all (key_order columns) start_cmp (keys_total columns) starts_total v (drop 1 all) (behind_first (ranked_cmp columns) (ranked_total columns) all up d some)) latest last open_
 
   module _ (u v : VersionWithRanks) (n : Neighbours (ranked_cmp columns) all u v) where
     seen : (x : VersionWithRanks) → earlier_of columns all x ≡ runs.earlier (key_order columns) start_cmp x (n.front ++ u ∷ v ∷ n.rest)
     seen x = ap (runs.earlier (key_order columns) start_cmp x) n.whole
 
-    pub knows_begin : (e : EarlierVersions) → is_eq (key_order columns u v) ≡ false → e.latest ≡ None → e.any_open ≡ false → KnowsEarlier columns all v e
-    knows_begin e other latest open_ =
-        nothing v e (seen v ∙ law.run_begins (key_order columns) start_cmp (keys_total columns) starts_total u v n.front n.rest n.first n.order n.last n.behind other) latest open_
+    pub knows_begin : (e : EarlierVersions) → is_eq (key_order columns u v) ≡ false → e.latest ≡ None → e.last ≡ None → e.any_open ≡ false → KnowsEarlier columns all v e
+    knows_begin e other latest last open_ =
+        nothing v e (seen v ∙ law.run_begins (key_order columns) start_cmp (keys_total columns) starts_total u v n.front n.rest n.first n.order n.last n.behind other) latest last open_
 
     pub knows_tie : (e : EarlierVersions) → is_eq (key_order columns u v) ≡ true → is_lt (start_cmp u v) ≡ false → KnowsEarlier columns all u e → KnowsEarlier columns all v e
     knows_tie e key level k =
@@ -78,12 +86,17 @@ module _ (columns : List ColumnDef) (all : List VersionWithRanks) where
         seen u ∙ sym (seen v ∙ law.run_ties (key_order columns) start_cmp (keys_total columns) starts_total u v n.front n.rest n.first n.order n.last n.behind key level) in
         record {
           latest = k.latest ∙ ap (λ l. option_map (λ (w : VersionWithRanks). w.end) (runs.latest (key_order columns) start_cmp l)) same;
+          last = k.last ∙ ap (λ l. option_map version_of (latest_of l)) same;
           some_open = k.some_open ∙ ap (list_any is_open) same;
         }
 
     pub knows_next : (e f : EarlierVersions) → is_eq (key_order columns u v) ≡ true → is_lt (start_cmp u v) ≡ true → KnowsEarlier columns all u e
-        → f.latest ≡ Some u.end → f.any_open ≡ (e.any_open || is_none u.end) → KnowsEarlier columns all v f
-    knows_next e f key less k latest open_ = record {
+        → f.latest ≡ Some u.end → f.last ≡ Some u.version → f.any_open ≡ (e.any_open || is_none u.end) → KnowsEarlier columns all v f
+    knows_next e f key less k latest last open_ = record {
+      last =
+          ap seen_last last
+          ∙ sym (ap (λ l. option_map version_of (latest_of l)) (seen v)
+          ∙ ap (option_map version_of) (law.run_latest (key_order columns) start_cmp (keys_total columns) starts_total u v n.front n.rest n.first n.order n.last n.behind key less));
       latest =
           latest
           ∙ sym (ap (λ l. option_map (λ (w : VersionWithRanks). w.end) (runs.latest (key_order columns) start_cmp l)) (seen v)
@@ -107,10 +120,10 @@ next_known columns all k x y e f up within some x_is y_is before on d =
     let known = subst (λ (u : VersionWithRanks). KnowsEarlier columns all u e) (sym x_is) (before x some) in
     subst (λ (v : VersionWithRanks). KnowsEarlier columns all v f) (y_is ∙ get_or_default all k y d within) (on all beside known)
 
-pub at_first : (columns : List ColumnDef) (all : List VersionWithRanks) (k : ℕ) (e : EarlierVersions) → IsSorted (ranked_cmp columns) all → k < length all → k ≡ 0 → e.latest ≡ None → e.any_open ≡ false
+pub at_first : (columns : List ColumnDef) (all : List VersionWithRanks) (k : ℕ) (e : EarlierVersions) → IsSorted (ranked_cmp columns) all → k < length all → k ≡ 0 → e.latest ≡ None → e.last ≡ None → e.any_open ≡ false
     → (d : VersionWithRanks) → KnowsEarlier columns all (get_or all k d) e
-at_first columns all k e up within zero_ latest open_ d =
-    subst (λ (n : ℕ). KnowsEarlier columns all (get_or all n d) e) (sym zero_) (knows_first columns all d e up (omega (arith, within, zero_)) latest open_)
+at_first columns all k e up within zero_ latest last open_ d =
+    subst (λ (n : ℕ). KnowsEarlier columns all (get_or all n d) e) (sym zero_) (knows_first columns all d e up (omega (arith, within, zero_)) latest last open_)
 
 pub known_before : (columns : List ColumnDef) (all : List VersionWithRanks) (k : ℕ) (e : EarlierVersions) → ((d : VersionWithRanks) → KnowsEarlier columns all (get_or all k d) e) → KnowsBefore columns all (k + 1) e
 known_before columns all k e here d lt = subst (λ (n : ℕ). KnowsEarlier columns all (get_or all n d) e) {x = k} {y = k + 1 - 1} (omega arith) (here d)
@@ -286,7 +299,18 @@ module _ (entries : List TxEntry) where
         (ap₂ (λ s t. s && t) (ends_is r k)
         (ap (spec.follows entries (version_of r)) (ap (spec.latest entries) before ∙ last.is) ∙ follows_is r (latest (earlier_of columns found r)) k last.ranked))
 
+    -- the version before it among those of its table is that of its ranks
+    pub last_is : (found : List VersionWithRanks) (r : VersionWithRanks) → AllByRecursion (IsRanked entries) found → IsRanked entries r
+        → spec.latest entries (spec.before entries columns (map version_of found) (version_of r)) ≡ last_version columns found r
+    last_is found r a k =
+        let kept = all_kept (IsRanked entries) (λ w. runs.precedes (key_order columns) start_cmp w r) found a in
+        ap (spec.latest entries) (before_is r k found a) ∙ (latest_is (earlier_of columns found r) kept).is
+
 -- sorting changes nothing of that
+pub last_sorted : (columns : List ColumnDef) (found : List VersionWithRanks) (r : VersionWithRanks) → last_version columns (sorted (ranked_cmp columns) found) r ≡ last_version columns found r
+last_sorted columns found r =
+    ap (option_map version_of) (law.latest_sorted (key_order columns) start_cmp (keys_total columns) starts_total r found)
+
 pub ordered_among_sorted : (columns : List ColumnDef) (found : List VersionWithRanks) (r : VersionWithRanks) → is_ordered_among columns (sorted (ranked_cmp columns) found) r ≡ is_ordered_among columns found r
 ordered_among_sorted columns found r =
     ap₂ (λ m b. is_ordered_after r (option_map (λ (w : VersionWithRanks). w.end) m) b)

@@ -6,9 +6,9 @@ mod GroupParts
 mod GroupsMerge
 mod InRuns
 mod KeyNumbers
-mod LeastParts
 mod Neighbours
 mod Places
+mod RowFaults
 mod Small
 mod Started
 mod StoredRows

@@ -1,5 +1,6 @@
 -- The versions of a table by their ranks: by key, and those of a key by start.
 use Rattle.std.specs.Prelude.{ℕ, ℤ, pos, ◌==◌, ◌&&◌, ◌||◌, ◌≡◌, ◌<◌, ◌-◌, nat_lt, not, Bool, true, false, List, [], ◌∷◌, map, get_or, Option, Some, None, is_none, is_some, option_map, unwrap_or, IfSome}
+use Rattle.std.specs.Borrow.{Bor}
 use Rattle.std.specs.List.{AllByRecursion, All, filter, list_any}
 use Rattle.std.specs.Ordering.{int_cmp, nat_cmp, on, ordering_then}
 use Rattle.std.specs.declared.cmp.Ordering.{Ordering}
@@ -9,6 +10,9 @@ use Rattle.sql_types.specs.declared.entry.TxEntry.{TxEntry}
 use Rattle.sql_types.specs.declared.version.Version.{Version}
 use Rattle.spec_model.specs.Keys.{version_key}
 use Rattle.spec_model.specs.Rows.{event_cmp}
+use Rattle.spec_model.specs.SystemTables.{columns_id}
+use Rattle.spec_rules.specs.Rows.{CatalogRows}
+use Rattle.spec_rules.specs.Rules.{version_keeps_the_rules}
 use Rattle.sql_parts.specs.Places.{by_key}
 use Rattle.spec_verify.specs.Entries.{TableEvent, has_id}
 use Rattle.audit_verify.specs.declared.order.EarlierVersions.{EarlierVersions}
@@ -91,12 +95,19 @@ abbrev pub latest_end : List ColumnDef → List VersionWithRanks → VersionWith
 latest_end columns all r =
     option_map (λ (w : VersionWithRanks). w.end) (runs.latest (key_order columns) start_cmp (earlier_of columns all r))
 
+-- the latest of them, if there are some
+abbrev pub last_version : List ColumnDef → List VersionWithRanks → VersionWithRanks → Option Version
+last_version columns all r =
+    option_map version_of (runs.latest (key_order columns) start_cmp (earlier_of columns all r))
+
 -- one of them has no end
 abbrev pub any_open : List ColumnDef → List VersionWithRanks → VersionWithRanks → Bool
 any_open columns all r = list_any is_open (earlier_of columns all r)
 
-pub record KnowsEarlier (columns : List ColumnDef) (all : List VersionWithRanks) (r : VersionWithRanks) (e : EarlierVersions) : Type 0 where
+pub record KnowsEarlier (columns : List ColumnDef) (all : List VersionWithRanks) (r : VersionWithRanks)
+    (e : EarlierVersions) : Type 0 where
   pub latest : e.latest ≡ latest_end columns all r
+  pub last : option_map (λ (v : Bor Version). v.now) e.last ≡ last_version columns all r
   pub some_open : e.any_open ≡ any_open columns all r
 
 -- of the version before the one at this place, if there is one
@@ -122,7 +133,21 @@ is_ordered_after r latest some_open = not (is_open r && some_open) && (ends_well
 abbrev pub is_ordered_among : List ColumnDef → List VersionWithRanks → VersionWithRanks → Bool
 is_ordered_among columns all r = is_ordered_after r (latest_end columns all r) (any_open columns all r)
 
--- the starts of those of some versions that don't stand so among all
-abbrev pub out_of_order : ℕ → List ColumnDef → List VersionWithRanks → List VersionWithRanks → List TableEvent
-out_of_order table columns all some =
-    map (λ (r : VersionWithRanks). (table, r.version.now.start)) (filter (λ r. not (is_ordered_among columns all r)) some)
+-- ---- rules of changes
+
+-- a version of this table keeps them, with the version of its key just before it
+abbrev pub keeps_rules : List TxEntry → CatalogRows → ℕ → Option Version → Version → Bool
+keeps_rules entries rows table last v =
+    not (nat_lt columns_id table) || version_keeps_the_rules entries rows (pos table) last v
+
+module _ (entries : List TxEntry) (rows : CatalogRows) (table : ℕ) (columns : List ColumnDef)
+    (all : List VersionWithRanks) where
+  abbrev pub is_right_among : VersionWithRanks → Bool
+  is_right_among r =
+      is_ordered_among columns all r
+      && keeps_rules entries rows table (last_version columns all r) (version_of r)
+
+  -- the starts of those of some versions that don't stand in order among all, or break a rule
+  abbrev pub wrong_among : List VersionWithRanks → List TableEvent
+  wrong_among some =
+      map (λ (r : VersionWithRanks). (table, r.version.now.start)) (filter (λ r. not (is_right_among r)) some)

@@ -7,8 +7,7 @@ use Rattle.spec_verify.specs.declared.place.Place.{Place}
 use Rattle.spec_verify.specs.declared.place.Verdict.{Verdict}
 use Rattle.spec_verify.specs.Blocks.{block_fault, chain_fault, digest_fault}
 use Rattle.spec_verify.specs.Entries.{id_fault, root_fault}
-use Rattle.spec_verify.specs.Versions.{version_fault}
-use Rattle.spec_verify.specs.Definitions.{definition_fault}
+use Rattle.spec_verify.specs.Rules.{catalog_fault, row_fault}
 use Rattle.spec_verify.specs.Indexes.{index_fault}
 use Rattle.spec_verify.specs.Verdict.{first_failed}
 
@@ -19,10 +18,10 @@ blocks_tried h i digests =
 abbrev pub tables_tried : (List ℕ → List ℕ) → Image → Verdict
 tables_tried h i =
     first_failed (
-    (V4, id_fault i) ∷ (V5, root_fault h i) ∷ (V6, version_fault i) ∷ (V7, definition_fault i)
+    (V4, id_fault i) ∷ (V5, root_fault h i) ∷ (V6, row_fault i) ∷ (V7, catalog_fault i)
     ∷ (V8, index_fault i) ∷ [])
 
 -- those after the ids, by the place at which a root of an entry is at fault
 abbrev pub rows_tried : Option Place → Image → Verdict
 rows_tried root i =
-    first_failed ((V5, root) ∷ (V6, version_fault i) ∷ (V7, definition_fault i) ∷ (V8, index_fault i) ∷ [])
+    first_failed ((V5, root) ∷ (V6, row_fault i) ∷ (V7, catalog_fault i) ∷ (V8, index_fault i) ∷ [])

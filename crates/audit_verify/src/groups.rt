@@ -4,7 +4,6 @@ ghost use Rattle.std.specs.Prelude.{All, ◌≡◌, ◌≤◌, ◌+◌, IfOk, le
 ghost use Rattle.std.specs.List.{AllByRecursion};
 ghost use Rattle.format_image.specs.ImageBytes.{IsImage};
 ghost use Rattle.spec_verify.specs.Entries.{id_fault};
-ghost use Rattle.spec_verify.specs.Versions.{rows_of_columns};
 ghost use Rattle.audit_roots.specs.ImageTable.{table_of};
 ghost use Rattle.audit_verify.specs.Groups as spec;
 ghost use Rattle.audit_verify.specs.Indexes.{HasFewIndexes, first_among};
@@ -12,7 +11,7 @@ ghost use Rattle.audit_verify.specs.Order.{AreStarted};
 
 use crate::indexes::fault_among;
 use crate::least::event_place;
-use crate::versions::least_invalid_version;
+use crate::versions::{least_invalid_version, times_of};
 use audit_columns::ColumnRows;
 use audit_roots::{ImageTable, group_of, shown_tables, wrong_root_in_group};
 use base_merkle::Hash32;
@@ -28,7 +27,7 @@ pub struct GroupFaults {
     /// The place, from 0, of the first entry that has another root in one of these tables than its events
     /// there, or a root without events, or events without a root; and the least of those tables.
     pub root: Option<(u64, TableId)>,
-    /// The start of the least version that its table may not have.
+    /// The start of the least version that its table may not have, or that breaks a rule of changes.
     pub version: Option<Place>,
     /// The first index whose rows aren't those of the base, where each version of these tables is one that
     /// its table may have.
@@ -60,8 +59,7 @@ pub fn group_faults<H: Hash32>(
     ensures root { IfOk result (λ faults. faults.root
         ≡ spec.wrong_root (H.digest hasher) (spec.group_of from count image.now) image.now.entries) }
     ensures version { IfOk result (λ faults. faults.version
-        ≡ spec.version_in image.now.entries (rows_of_columns image.now.tables)
-        (spec.group_of from count image.now)) }
+        ≡ spec.version_in image.now (spec.group_of from count image.now)) }
     ensures index { IfOk result (λ faults. faults.index
         ≡ spec.if_none faults.version (spec.index_in from count image.now)) }
 {
@@ -85,8 +83,7 @@ pub(crate) fn group_rows(
     requires ids { id_fault image.now ≡ None }
     requires within { from + count ≤ length image.now.tables }
     ensures version { IfOk result (λ faults. faults.version
-        ≡ spec.version_in image.now.entries (rows_of_columns image.now.tables)
-        (spec.group_of from count image.now)) }
+        ≡ spec.version_in image.now (spec.group_of from count image.now)) }
     ensures index { IfOk result (λ faults. faults.index
         ≡ spec.if_none faults.version (spec.index_in from count image.now)) }
 {
@@ -98,18 +95,19 @@ pub(crate) fn group_rows(
     Ok(RowFaults { version, index })
 }
 
-/// The least version of these tables that its table may not have, by all rows of the table of columns.
+/// The least version of these tables that its table may not have or that breaks a rule, by all rows of the system
+/// tables.
 fn version_in_group(
     alloc: Global,
     image: &Image,
     tables: &[ImageTable],
 ) -> Result<Option<Place>, Memory>
     requires { All (AreStarted image.now.entries) tables.now }
-    ensures { IfOk result (λ place. place ≡ spec.version_in image.now.entries
-        (rows_of_columns image.now.tables) (map table_of tables.now)) }
+    ensures { IfOk result (λ place. place ≡ spec.version_in image.now (map table_of tables.now)) }
 {
     let columns = ColumnRows::of(alloc, image)?;
-    let worst = least_invalid_version(alloc, &columns, tables)?;
+    let times = times_of(alloc, &columns, image)?;
+    let worst = least_invalid_version(alloc, &columns, &times, tables)?;
     Ok(event_place(worst))
 }
 

@@ -6,15 +6,20 @@
 //! an end is at fault, also behind others that have ended, and the least fault is the one of the least
 //! transaction, which needn't be the first in the ledger.
 
-ghost use Rattle.std.specs.Prelude.{◌≡◌, ◌<◌, ◌||◌, ◌++◌, ◌∷◌, [], if◌then◌else◌, IsSorted, List, IfOk, IfSome, OnOk, map, length, get_or, option_map, is_none, unwrap_or};
+ghost use Rattle.std.specs.Prelude.{◌≡◌, ◌<◌, ◌&&◌, ◌||◌, ◌++◌, ◌∷◌, [], if◌then◌else◌, IsSorted, List, IfOk, IfSome, OnOk, map, length, get_or, option_map, is_none, unwrap_or};
+ghost use Rattle.std.specs.Borrow.{Bor};
 ghost use Rattle.std.specs.List.{All, AllByRecursion, list_all};
 ghost use Rattle.std.specs.Option.{option_copied};
 ghost use Rattle.std.specs.Ordering.{int_cmp, is_eq};
 ghost use Rattle.sql_value.specs.declared.value.Value.TheVariants.{Null, Num};
+ghost use Rattle.sql_types.specs.declared.entry.TxEntry.{TxEntry};
+ghost use Rattle.sql_types.specs.declared.version.Version.{Version as VersionOf};
 ghost use Rattle.spec_model.specs.Keys.{key_at};
 ghost use Rattle.spec_model.specs.Lists.{sorted};
 ghost use Rattle.spec_model.specs.Rows.{values_of};
 ghost use Rattle.law_catalog_rows.specs.Least.{least_from, lesser};
+ghost use Rattle.spec_rules.specs.Rows.{CatalogRows};
+ghost use Rattle.audit_rules.specs.Times.{AreTableTimes};
 ghost use Rattle.spec_verify.specs.Entries.{table_event_cmp};
 ghost use Rattle.spec_verify.specs.Versions.{with_columns};
 ghost use Rattle.audit_verify.specs.Order as spec;
@@ -24,7 +29,8 @@ ghost use Rattle.audit_verify.specs.declared.order.VersionWithRanks.{VersionWith
 
 use crate::least::{TableEvent, lesser};
 use audit_columns::{Positions, Rank, has_columns};
-use base_types::Memory;
+use audit_rules::{TableTimes, VersionInTime};
+use base_types::{Memory, TableId};
 use sql_parts::{KeyedTable, Valued, compare_by_key};
 use sql_types::{EventId, TableRows, Version};
 use sql_value::Value;
@@ -43,9 +49,11 @@ pub struct VersionWithRanks<'a> {
 
 /// What is known of the earlier versions of a version's key.
 #[derive(Clone, Copy, Debug)]
-pub struct EarlierVersions {
+pub struct EarlierVersions<'a> {
     /// The end of the latest of them, if there are some.
     pub latest: Option<Option<Rank>>,
+    /// The latest of them.
+    pub last: Option<&'a Version>,
     /// Whether one of them has no end.
     pub any_open: bool,
 }
@@ -248,40 +256,68 @@ fn openness(end: Option<Rank>) -> u8
     }
 }
 
-/// The least start so far, and of the versions that don't stand in order among those of their key.
-pub(crate) fn least_out_of_order(
+/// The least start so far, and of the versions that don't stand in order among those of their key, or break a rule of
+/// changes.
+pub(crate) fn least_wrong(
     table: &KeyedTable,
+    times: &TableTimes,
     ranked: &[VersionWithRanks],
     worst: Option<TableEvent>,
 ) -> Option<TableEvent>
     requires order { IsSorted (spec.ranked_cmp table.now.columns) ranked.now }
     requires numbers { All (spec.IsNumbered table.now.columns) ranked.now }
-    ensures { result ≡ least_from table_event_cmp worst
-        (spec.out_of_order table.now.id table.now.columns ranked.now ranked.now) }
+    requires table { times.now.table ≡ table.now.id }
+    ensures { (entries : List TxEntry) (rows : CatalogRows) → AreTableTimes rows times.now
+        → All (spec.IsRanked entries) ranked.now → result ≡ least_from table_event_cmp worst
+        (spec.wrong_among entries rows table.now.id table.now.columns ranked.now ranked.now) }
 {
     let mut worst = worst;
     let mut earlier = EarlierVersions {
         latest: None,
+        last: None,
         any_open: false,
     };
     for k in 0..ranked.len() {
-        earlier = earlier_at(table, ranked, k, earlier);
-        worst = worst_with(table, &ranked[k], earlier, worst);
+        earlier = earlier_at(table, ranked, k, &earlier);
+        worst = worst_with(table, times, &ranked[k], &earlier, worst);
     }
     worst
 }
 
-/// The lesser of the least so far and the start of the version, if it doesn't stand in order.
+/// Whether the version keeps the rules of changes, which speak of users' tables alone.
+fn keeps_rules(times: &TableTimes, version: &VersionWithRanks, last: Option<&Version>) -> bool
+    ensures { (entries : List TxEntry) (rows : CatalogRows) → AreTableTimes rows times.now
+        → spec.IsRanked entries version.now → result ≡ spec.keeps_rules entries rows times.now.table
+        (option_map (λ (v : Bor VersionOf). v.now) last.entry) version.now.version.now }
+{
+    times.table <= COLUMNS_ID
+        || times.keeps_the_rules(&VersionInTime {
+            version: version.version,
+            start: version.start,
+            end: version.end,
+            last,
+        })
+}
+
+/// The id of the table of columns; the tables up to it are the system's.
+const COLUMNS_ID: TableId = 2;
+
+/// The lesser of the least so far and the start of the version, if it doesn't stand in order or breaks a rule.
 fn worst_with(
     table: &KeyedTable,
+    times: &TableTimes,
     version: &VersionWithRanks,
-    earlier: EarlierVersions,
+    earlier: &EarlierVersions,
     worst: Option<TableEvent>,
 ) -> Option<TableEvent>
-    ensures { result ≡ (if spec.is_ordered_after version.now earlier.latest earlier.any_open
+    ensures { (entries : List TxEntry) (rows : CatalogRows) → AreTableTimes rows times.now
+        → spec.IsRanked entries version.now → result
+        ≡ (if spec.is_ordered_after version.now earlier.now.latest earlier.now.any_open
+        && spec.keeps_rules entries rows times.now.table
+        (option_map (λ (v : Bor VersionOf). v.now) earlier.now.last) version.now.version.now
         then worst else lesser table_event_cmp worst (table.now.id, version.now.version.now.start)) }
 {
-    if is_ordered_after(version, earlier) {
+    if is_ordered_after(version, earlier) && keeps_rules(times, version, earlier.last) {
         worst
     } else {
         lesser(worst, (table.def().id, version.version.start))
@@ -289,21 +325,22 @@ fn worst_with(
 }
 
 /// What is known at this place, by what was known at the one before.
-fn earlier_at(
+fn earlier_at<'a>(
     table: &KeyedTable,
-    ranked: &[VersionWithRanks],
+    ranked: &[VersionWithRanks<'a>],
     k: usize,
-    before: EarlierVersions,
-) -> EarlierVersions
+    before: &EarlierVersions<'a>,
+) -> EarlierVersions<'a>
     requires within { k < length ranked.now }
     requires order { IsSorted (spec.ranked_cmp table.now.columns) ranked.now }
     requires numbers { All (spec.IsNumbered table.now.columns) ranked.now }
-    requires before { spec.KnowsBefore table.now.columns ranked.now k before }
+    requires before { spec.KnowsBefore table.now.columns ranked.now k before.now }
     ensures { (d : RankedVersion) → spec.KnowsEarlier table.now.columns ranked.now (get_or ranked.now k d) result }
 {
     if k == 0 {
         return EarlierVersions {
             latest: None,
+            last: None,
             any_open: false,
         };
     }
@@ -311,31 +348,33 @@ fn earlier_at(
 }
 
 /// What is known of the version that stands behind the last one.
-fn earlier_behind(
+fn earlier_behind<'a>(
     table: &KeyedTable,
-    last: &VersionWithRanks,
+    last: &VersionWithRanks<'a>,
     version: &VersionWithRanks,
-    known: EarlierVersions,
-) -> EarlierVersions
+    known: &EarlierVersions<'a>,
+) -> EarlierVersions<'a>
     requires last { spec.IsNumbered table.now.columns last.now }
     requires version { spec.IsNumbered table.now.columns version.now }
     ensures { (all : List RankedVersion) → Neighbours (spec.ranked_cmp table.now.columns) all last.now version.now
-        → spec.KnowsEarlier table.now.columns all last.now known
+        → spec.KnowsEarlier table.now.columns all last.now known.now
         → spec.KnowsEarlier table.now.columns all version.now result }
 {
     if !have_same_key(table, last, version) {
         return EarlierVersions {
             latest: None,
+            last: None,
             any_open: false,
         };
     }
     if compare_starts(last, version).is_lt() {
         return EarlierVersions {
             latest: Some(last.end),
+            last: Some(last.version),
             any_open: is_any_open(last, known),
         };
     }
-    known
+    *known
 }
 
 /// Whether two versions have one key: by their numbers, where they have some.
@@ -360,16 +399,16 @@ fn compare_keys(table: &KeyedTable, a: &VersionWithRanks, b: &VersionWithRanks) 
 }
 
 /// Whether the version or an earlier one has no end.
-fn is_any_open(version: &VersionWithRanks, known: EarlierVersions) -> bool
-    ensures { result ≡ (known.any_open || is_none version.now.end) }
+fn is_any_open(version: &VersionWithRanks, known: &EarlierVersions) -> bool
+    ensures { result ≡ (known.now.any_open || is_none version.now.end) }
 {
     known.any_open || version.end.is_none()
 }
 
 /// Whether it has an end or each earlier one has one, it ends after it starts, and the latest of the earlier
 /// ones ends before it starts.
-fn is_ordered_after(version: &VersionWithRanks, earlier: EarlierVersions) -> bool
-    ensures { result ≡ spec.is_ordered_after version.now earlier.latest earlier.any_open }
+fn is_ordered_after(version: &VersionWithRanks, earlier: &EarlierVersions) -> bool
+    ensures { result ≡ spec.is_ordered_after version.now earlier.now.latest earlier.now.any_open }
 {
     !(version.end.is_none() && earlier.any_open)
         && (ends_well(version) && follows(version, earlier.latest))

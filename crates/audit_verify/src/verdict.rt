@@ -9,9 +9,9 @@ use crate::blocks::{block_fault, chain_fault, digest_fault};
 use crate::entries::Entries;
 use crate::ids::id_fault;
 use crate::indexes::index_fault;
-use crate::versions::version_fault;
-use audit_definitions::definition_fault;
+use crate::versions::row_fault;
 use audit_roots::{root_fault, shown_tables};
+use audit_rules::catalog_fault;
 use base_merkle::Hash32;
 use base_types::Memory;
 use format_image::Image;
@@ -72,10 +72,10 @@ fn verify_tables<H: Hash32>(alloc: Global, hasher: H, image: &Image) -> Result<V
     if let Some(place) = root_fault(alloc, hasher, image, &tables)? {
         return Ok(Verdict::No(Invariant::V5, place));
     }
-    if let Some(place) = version_fault(alloc, image, &tables)? {
+    if let Some(place) = row_fault(alloc, image, &tables)? {
         return Ok(Verdict::No(Invariant::V6, place));
     }
-    if let Some(place) = definition_fault(alloc, image)? {
+    if let Some(place) = catalog_fault(alloc, image)? {
         return Ok(Verdict::No(Invariant::V7, place));
     }
     if let Some(place) = index_fault(alloc, image, &tables)? {

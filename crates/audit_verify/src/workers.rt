@@ -9,8 +9,8 @@ ghost use Rattle.format_image.specs.Tables.{tables_in};
 ghost use Rattle.spec_verify.specs.Bytes.{verdict_of};
 ghost use Rattle.spec_verify.specs.Entries.{id_fault as id_fault_of};
 ghost use Rattle.spec_verify.specs.Indexes.{index_fault};
+ghost use Rattle.spec_verify.specs.Rules.{row_fault};
 ghost use Rattle.spec_verify.specs.Verdict.{image_verdict};
-ghost use Rattle.spec_verify.specs.Versions.{rows_of_columns, version_fault};
 ghost use Rattle.audit_verify.specs.Groups as spec;
 ghost use Rattle.audit_verify.specs.Verdict.{blocks_tried, rows_tried, tables_tried};
 
@@ -20,8 +20,8 @@ use crate::groups::{GroupFaults, RowFaults, group_faults, group_rows};
 use crate::ids::id_fault;
 use crate::merged::both;
 use crate::verdict::verify_image;
-use audit_definitions::definition_fault;
 use audit_roots::{Fault, left_over, root_place, shown_tables, wrong_root_in_group_by};
+use audit_rules::catalog_fault;
 use base_merkle::Hash32;
 use base_types::{Memory, TableId};
 use format_image::{Image, TableRows, read_image};
@@ -196,7 +196,7 @@ fn verdict_on(
     found: GroupFaults,
 ) -> Result<Verdict, Memory>
     requires image { IsImage image.now }
-    requires version { found.version ≡ version_fault image.now }
+    requires version { found.version ≡ row_fault image.now }
     requires index { found.index ≡ spec.if_none found.version (index_fault image.now) }
     ensures { IfOk result (λ v. v ≡ rows_tried root image.now) }
 {
@@ -206,7 +206,7 @@ fn verdict_on(
     if let Some(place) = found.version {
         return Ok(Verdict::No(Invariant::V6, place));
     }
-    if let Some(place) = definition_fault(alloc, image)? {
+    if let Some(place) = catalog_fault(alloc, image)? {
         return Ok(Verdict::No(Invariant::V7, place));
     }
     match found.index {
@@ -294,8 +294,7 @@ fn faults_side_by_side<H: Hash32, R: Threads + Sync>(
             requires ids { id_fault_of image.now ≡ None }
             requires within { from + count ≤ length image.now.tables }
             ensures version { IfOk result (λ faults. faults.version
-                ≡ spec.version_in image.entry.now.entries (rows_of_columns image.entry.now.tables)
-                (spec.group_of from count image.entry.now)) }
+                ≡ spec.version_in image.entry.now (spec.group_of from count image.entry.now)) }
             ensures index { IfOk result (λ faults. faults.index
                 ≡ spec.if_none faults.version (spec.index_in from count image.entry.now)) }
         { group_rows(alloc, image, from, count) },

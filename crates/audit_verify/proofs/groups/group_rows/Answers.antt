@@ -1,6 +1,5 @@
 use Rattle.std.proofs.Common.{ap, ◌∙◌}
 use Rattle.audit_verify.specs.Groups.{if_none, version_in}
-use Rattle.spec_verify.specs.Versions.{rows_of_columns}
 use Rattle.audit_verify.proofs.GroupParts.{group_started, group_few, group_indexes}
 use Rattle.audit_roots.proofs.WrongRoots.{within_shown, group_tables}
 use Rattle.audit_verify.proofs.groups.group_rows.Goals as goal
@@ -19,7 +18,7 @@ index_in_group-requires c =
 pub returns-clause-version : goal.returns-clause-version
 returns-clause-version c =
     c.in_ok-version.ensures
-    ∙ ap (version_in c.args.image.now.entries (rows_of_columns c.args.image.now.tables))
+    ∙ ap (version_in c.args.image.now)
     (group_tables _ _ _ c.args.image.now c.args.from c.args.count c.in_ok-tables.ensures c.requires.image c.deref-2.ensures.value c.group_of-group.ensures)
 
 pub returns-clause-index : goal.returns-clause-index
