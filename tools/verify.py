@@ -10,19 +10,19 @@ on a second line with `--coverage`, and otherwise on standard error.
 import sys
 from bisect import bisect_left
 from collections import Counter, defaultdict
-from typing import NamedTuple, Optional
+from typing import Iterator, NamedTuple, Optional
 
 from digests import Digest, NoDigest, read_digests
 from ledger import (
     APPEND_ONLY, BIGINT, BIT, COLUMNS, DECIMAL, FIRST_USER_TABLE, INT, MAX_BLOCK_ENTRIES, NVARCHAR, TABLES,
-    Column, Definition, EventId, Image, Malformed, Type, Value, Values, Version, event_leaf, number, read_image, signed,
-    system_definitions, tree_hash,
+    Definition, EventId, Image, Malformed, Type, Value, Values, Version, event_leaf, has_columns, has_forbidden_null,
+    number, read_image, signed, system_definitions, tree_hash,
 )
+from rules import DROPPED, GONE, Changes
 
 MAX_IMAGE, MAX_DIGESTS = 256 * 2**20, 32 * 2**20
 MAX_TABLES, MAX_COLUMNS, MAX_PARTS, MAX_INDEXES = 32, 64, 4, 4
-# the items of columns end here; in rows, what a kind has more where the table was dropped, and the key position then
-MAX_COLUMN_ITEM, GONE, DROPPED = 1000, 2, -1
+MAX_COLUMN_ITEM = 1000  # the items of columns end here
 
 Place = Optional[str]
 # of a column, by table and item: the ranks of rows about it, and whether they say NOT NULL
@@ -159,7 +159,7 @@ def root_fault(image: Image, _: list[Digest]) -> Place:
 def version_fault(image: Image, _: list[Digest]) -> Place:
     """V6: versions have their table's columns as of their start, and those of one key follow one another."""
     places = {entry.id: place for place, entry in enumerate(image.entries)}
-    columns = columns_by_start(image, places)
+    columns, changes = columns_by_start(image, places), Changes(image)
     bad = []
     for definition in [*system_definitions(), *image.definitions]:
         rows = image.rows[definition.id]
@@ -169,23 +169,17 @@ def version_fault(image: Image, _: list[Digest]) -> Place:
         if definition.id < FIRST_USER_TABLE:
             starts |= {it.start for it in fitting if has_forbidden_null(definition.columns, it.values)}
         else:
-            starts |= {it.start for it in fitting if has_null_too_much(columns, definition.id, it, places)}
+            starts |= {
+                it.start
+                for it in fitting
+                if has_null_too_much(columns, definition.id, it, places)
+                or not changes.is_in_its_time(definition.id, it)
+            }
         if definition.kind == APPEND_ONLY:
             starts |= {it.start for it in rows.history}
         starts |= out_of_order(definition, fitting, places)
         bad += [(definition.id, start) for start in starts]
     return event_place(bad)
-
-
-def has_columns(columns: tuple[Column, ...], values: Values) -> bool:
-    """Whether there is one value for each column, NULL or of its type."""
-    return len(values) == len(columns) and all(
-        value is None or value.type == column.type for column, value in zip(columns, values)
-    )
-
-
-def has_forbidden_null(columns: tuple[Column, ...], values: Values) -> bool:
-    return any(value is None and not column.nullable for column, value in zip(columns, values))
 
 
 def columns_by_start(image: Image, places: dict[int, int]) -> ColumnsByStart:
@@ -217,24 +211,32 @@ def rank(event: EventId, places: dict[int, int]) -> tuple[int, int]:
     return places[event.transaction], event.number
 
 
+def in_order(
+    definition: Definition, versions: list[Version], places: dict[int, int]
+) -> Iterator[tuple[Optional[Version], Version]]:
+    """Each version with the one of its key just before it, if there is one; those of one key in their order."""
+    by_key: dict[Values, list[Version]] = defaultdict(list)
+    for version in versions:
+        by_key[picked(version, definition.key())].append(version)
+    for own in by_key.values():
+        own.sort(key=lambda it: (rank(it.start, places), it.end is None))
+        yield from zip([None, *own], own)
+
+
 def out_of_order(definition: Definition, versions: list[Version], places: dict[int, int]) -> set[EventId]:
     """The starts of versions that end too early, or that begin before another of their key had ended."""
 
     def at(event: EventId) -> tuple[int, int]:
         return rank(event, places)
 
-    by_key: dict[Values, list[Version]] = defaultdict(list)
-    for version in versions:
-        by_key[picked(version, definition.key())].append(version)
     found = {it.start for it in versions if it.end is not None and not at(it.start) < at(it.end)}
-    for own in by_key.values():
-        own.sort(key=lambda it: (at(it.start), it.end is None))
-        is_live_before = False
-        for before, it in zip([None, *own], own):
-            has_followed = before is None or (before.end is not None and at(before.end) < at(it.start))
-            if not has_followed or (it.end is None and is_live_before):
-                found.add(it.start)
-            is_live_before |= it.end is None
+    is_live_before = False
+    for before, it in in_order(definition, versions, places):
+        has_followed = before is None or (before.end is not None and at(before.end) < at(it.start))
+        is_live_before = is_live_before and before is not None
+        if not has_followed or (it.end is None and is_live_before):
+            found.add(it.start)
+        is_live_before |= it.end is None
     return found
 
 
@@ -246,9 +248,9 @@ def picked(version: Version, places: list[int]) -> Values:
 
 
 def definition_fault(image: Image, _: list[Digest]) -> Place:
-    """V7: the base rows of the system's tables encode the definitions, which keep the rules of CREATE."""
+    """V7: the system's rows encode the definitions, which keep the rules of CREATE, and keep those of changes."""
     tables, items = (by_table(image.rows[table].base) for table in (TABLES, COLUMNS))
-    definitions = {it.id: it for it in image.definitions}
+    definitions, changes = {it.id: it for it in image.definitions}, Changes(image)
     wrong = [
         id
         for id in {*tables, *items, *definitions}
@@ -256,6 +258,7 @@ def definition_fault(image: Image, _: list[Digest]) -> Place:
         or not encode(definitions[id], tables.get(id, []), items.get(id, []))
         or not keeps_rules(definitions[id])
         or has_old_name(definitions[id], tables)
+        or changes.break_rules(id)
     ]
     return f"table {min(wrong)}" if wrong else None
 
