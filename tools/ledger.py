@@ -383,6 +383,18 @@ def table_named(image: Image, word: str) -> Definition:
     return found[0]
 
 
+def has_columns(columns: tuple[Column, ...], values: Values) -> bool:
+    """Whether there is one value for each column, NULL or of its type."""
+    return len(values) == len(columns) and all(
+        value is None or value.type == column.type for column, value in zip(columns, values)
+    )
+
+
+def has_forbidden_null(columns: tuple[Column, ...], values: Values) -> bool:
+    """Whether there is a NULL in a column that may have none."""
+    return any(value is None and not column.nullable for column, value in zip(columns, values))
+
+
 def read_rows(source: Reader, indexes: int) -> Rows:
     base = [Version(read_event_id(source), None, read_values(source)) for _ in range(source.number(8))]
     history = [

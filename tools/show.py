@@ -30,6 +30,8 @@ from ledger import (
 )
 
 TYPE_NAMES = ("?", "BIT", "INT", "BIGINT", "DECIMAL", "NVARCHAR", "VARBINARY", "DATE")
+# So that each row has one line, and is read back from it.
+ESCAPES = str.maketrans({"\n": "\\n", "\r": "\\r", "\\": "\\\\"})
 
 # --- Texts -----------------------------------------------------------------------------------------------------------
 
@@ -47,7 +49,8 @@ def value_text(value: Optional[Value], quoted: bool = True) -> str:
     if code == VARBINARY:
         return "0x" + data.hex().upper()
     if code == NVARCHAR:
-        return "N'" + data.decode().replace("'", "''") + "'" if quoted else data.decode()
+        text = data.decode()
+        return "N'" + text.replace("'", "''").translate(ESCAPES) + "'" if quoted else text
     if code == DATE:
         day = datetime.date.fromordinal(int.from_bytes(data, "big") + 1).isoformat()
         return f"'{day}'" if quoted else day
@@ -275,7 +278,12 @@ def journal_lines(database: str, items: list) -> Iterator[str]:
         yield f"item {place}: transaction {item.id}: {moment_text(item.time)} by {item.session}{begun}"
         for statement, reply in item.statements:
             yield f"  {statement}"
-            yield from (f"    {line}" for line in reply.splitlines())
+            yield from (f"    {line}" for line in reply_lines(reply))
+
+
+def reply_lines(reply: str) -> list[str]:
+    """The lines of a reply as transcripts write them: what needs an escape stands between quotes."""
+    return re.sub("'[^']*'", lambda it: it[0].translate(ESCAPES), reply).removesuffix("\n").split("\n")
 
 
 # --- The command -----------------------------------------------------------------------------------------------------
