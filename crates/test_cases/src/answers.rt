@@ -3,15 +3,17 @@
 use crate::digests::{issued, read};
 use crate::expressions::{classes, evaluated};
 use crate::fault::Fault;
+use crate::hashes::{hashed, hashed_together, node};
 use crate::locks::{asked, compared_modes};
 use crate::page::Page;
+use crate::paths::{led, path};
 use crate::pieces::Pieces;
 use crate::records::{changed, cut, record, shown};
 use crate::replies::reply;
 use crate::selecting::{selected, selected_short};
 use crate::statements::{compared_texts, cut_up, form, lines, name, parsed, sessions};
 use crate::texts::{first_word, text_of};
-use crate::trees::{restored, tree};
+use crate::trees::{levels, numbered, restored, tree};
 use crate::values::{column, compared, day, literal};
 use std::alloc::Global;
 
@@ -99,6 +101,20 @@ fn of_record(alloc: Global, word: &str, text: &str, page: &mut Page) -> Result<(
         "locks" => asked(alloc, text, page),
         "modes" => compared_modes(text, page),
         "reply" => reply(alloc, text, page),
+        _ => of_hashes(alloc, word, text, page),
+    }
+}
+
+/// The answer to a case of hashes.
+fn of_hashes(alloc: Global, word: &str, text: &str, page: &mut Page) -> Result<(), Fault> {
+    match word {
+        "sha256" => hashed(alloc, text, page),
+        "four" => hashed_together(alloc, text, page),
+        "node" => node(text, page),
+        "levels" => levels(alloc, text, page),
+        "numbered" => numbered(alloc, text, page),
+        "led" => led(alloc, text, page),
+        "path" => path(alloc, text, page),
         _ => Err(Fault::Form("no such word")),
     }
 }

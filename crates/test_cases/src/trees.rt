@@ -5,15 +5,16 @@ ghost use Rattle.base_merkle.specs.Holds.{Holds};
 
 use crate::fault::Fault;
 use crate::page::Page;
-use crate::texts::{hex_bytes, split_at_bar};
-use base_merkle::{Frontier, Hash32, Sha256Hash};
+use crate::texts::{hex_bytes, number, split_at_bar};
+use base_merkle::{Frontier, Hash32, Sha256Hash, leaf_hash, root_of_hashes};
 use base_types::Hash;
 use std::alloc::Global;
 
 /// The most leaves of a case.
-const MOST_LEAVES: usize = 1000;
+const MOST_LEAVES: usize = 100_000;
 
-fn leaf_of(alloc: Global, word: &str) -> Result<Vec<u8>, Fault> {
+/// The bytes that a word is.
+pub fn leaf_of(alloc: Global, word: &str) -> Result<Vec<u8>, Fault> {
     match word {
         "-" => Ok(Vec::new(alloc)),
         _ => hex_bytes(alloc, word),
@@ -27,8 +28,9 @@ fn put_leaves(alloc: Global, words: &str, leaves: &mut Vec<Vec<u8>>) -> Result<(
     Ok(())
 }
 
-fn leaves_of(alloc: Global, words: &str) -> Result<Vec<Vec<u8>>, Fault>
-    ensures few { IfOk result (λ leaves. vec_len leaves ≤ 1000) }
+/// The bytes of each word.
+pub fn leaves_of(alloc: Global, words: &str) -> Result<Vec<Vec<u8>>, Fault>
+    ensures few { IfOk result (λ leaves. vec_len leaves ≤ 100000) }
 {
     let mut leaves = Vec::new(alloc);
     put_leaves(alloc, words, &mut leaves)?;
@@ -52,9 +54,9 @@ fn push_all<H: Hash32>(tree: &mut Frontier<H>, leaves: &[Vec<u8>])
 /// The root of the first leaves, that with the second behind them, and that with the third in the place of
 /// the second.
 fn roots(first: &[Vec<u8>], second: &[Vec<u8>], third: &[Vec<u8>]) -> (Hash, Hash, Hash)
-    requires first { length first.now ≤ 1000 }
-    requires second { length second.now ≤ 1000 }
-    requires third { length third.now ≤ 1000 }
+    requires first { length first.now ≤ 100000 }
+    requires second { length second.now ≤ 100000 }
+    requires third { length third.now ≤ 100000 }
 {
     let mut tree = Frontier::new(Sha256Hash);
     push_all(&mut tree, first);
@@ -68,7 +70,7 @@ fn roots(first: &[Vec<u8>], second: &[Vec<u8>], third: &[Vec<u8>]) -> (Hash, Has
 }
 
 fn put_tree(leaves: &[Vec<u8>], page: &mut Page)
-    requires few { length leaves.now ≤ 1000 }
+    requires few { length leaves.now ≤ 100000 }
 {
     let mut tree = Frontier::new(Sha256Hash);
     push_all(&mut tree, leaves);
@@ -82,6 +84,42 @@ pub fn tree(alloc: Global, words: &str, page: &mut Page) -> Result<(), Fault> {
     let leaves = leaves_of(alloc, words)?;
     put_tree(&leaves, page);
     Ok(())
+}
+
+fn put_level_root(alloc: Global, leaves: &[Vec<u8>], page: &mut Page) -> Result<(), Fault> {
+    let mut hashes = Vec::new(alloc);
+    for leaf in leaves {
+        hashes.push(leaf_hash(Sha256Hash, leaf))?;
+    }
+    page.put_digits(&root_of_hashes(alloc, Sha256Hash, hashes)?);
+    Ok(())
+}
+
+/// The root of the tree of some leaves, made level by level.
+pub fn levels(alloc: Global, words: &str, page: &mut Page) -> Result<(), Fault> {
+    put_level_root(alloc, &leaves_of(alloc, words)?, page)
+}
+
+/// The numbers from 0 on, each in four bytes, the high one first.
+fn numbers(alloc: Global, count: u64) -> Result<Vec<Vec<u8>>, Fault> {
+    let mut leaves = Vec::new(alloc);
+    for number in 0..count {
+        let mut leaf = Vec::new(alloc);
+        leaf.extend_from_slice(&number.to_be_bytes()[4..])?;
+        leaves.push(leaf)?;
+    }
+    Ok(leaves)
+}
+
+/// Of so many leaves that are numbers, the root made leaf by leaf, and level by level.
+pub fn numbered(alloc: Global, text: &str, page: &mut Page) -> Result<(), Fault> {
+    let leaves = numbers(alloc, number(text)?)?;
+    if leaves.len() > MOST_LEAVES {
+        return Err(Fault::Form("there are too many leaves"));
+    }
+    put_tree(&leaves, page);
+    page.put(" ");
+    put_level_root(alloc, &leaves, page)
 }
 
 fn put_roots(roots: &(Hash, Hash, Hash), page: &mut Page) {
