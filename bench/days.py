@@ -455,7 +455,7 @@ def try_refused(folder: Folder, tally: Tally) -> None:
             tally.add(f"a journal {what}", case_faults(folder, command, line, case))
     with open(os.path.join(folder.path, "x.journal"), "r+b") as sink:
         sink.truncate(LONGEST + 1)
-    case = Case(None, 3, f"a limit was exceeded (x.journal: more than {LONGEST} bytes)")
+    case = Case(None, 3, f"a limit was exceeded: x.journal: more than {LONGEST} bytes")
     for command, line in inputs.items():
         tally.add("a journal that is too long", case_faults(folder, command, line, case))
     for words in (["--from", "good.journal", "--database", "X"], ["--from", "a/b"], ["--from"], ["--from=good.journal"] * 2):

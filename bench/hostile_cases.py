@@ -4,12 +4,12 @@ import dataclasses
 import hashlib
 import itertools
 import struct
-from collections.abc import Callable
+from collections.abc import Callable, Iterable
 from typing import NamedTuple
 
 import verify
 from ledger import COLUMNS, TABLES, Column, Definition, Index, Type, short
-from made import Book, NULL, Row, entry_bytes, image_bytes, listed, numbers, table, whole
+from made import Book, NULL, Row, Start, entry_bytes, image_bytes, listed, numbers, table, whole
 
 INPUT, IMAGE, DIGESTS, RECEIPT = 4 << 20, 256 << 20, 32 << 20, 16 << 20
 
@@ -244,11 +244,28 @@ def many_transactions(count: int, falling: bool = False) -> Book:
 def one_key(count: int, transactions: bool) -> Book:
     """Versions of one key, each ended where the next one starts, by one transaction or by as many."""
     book, row = Book([table(3)]), numbers(0, 0)
-    start = book.start(3, 4, row)
-    for n in range(count):
-        transaction = n + 5 if transactions else 4
+    update(book, row, book.start(3, 4, row), (n + 5 if transactions else 4 for n in range(count)))
+    return book
+
+
+def update(book: Book, row: Row, start: Start, transactions: Iterable[int]) -> None:
+    """UPDATEs of the row of table 3 that started there, which leave its values as they are."""
+    for transaction in transactions:
         book.end(3, transaction, start, row)
         start = book.start(3, transaction, row)
+
+
+def carried_on(count: int) -> Book:
+    """Versions of one key, each of which has the value of a dropped column from the one before."""
+    made, row = table(3, 3), numbers(0, 0, 0)
+    book = Book([made])
+    start = book.start(3, 4, row)
+    gone = made.columns[1]._replace(name="MSSQL_DroppedLedgerColumn_c1_2", dropped=1)
+    book.definitions = [made._replace(columns=(made.columns[0], gone, made.columns[2]))]
+    said = list(verify.item_rows(book.definitions[0])[1])
+    said[2] = whole(1)
+    book.start(COLUMNS, 5, Row(said))
+    update(book, row, start, range(6, count + 6))
     return book
 
 
@@ -269,23 +286,35 @@ def one_live_key(count: int) -> Book:
     return book
 
 
-def table_rows(count: int, tables: bool) -> Book:
-    """Rows of the table of tables: changes of one, or one each about as many."""
+def table_rows(count: int, tables: bool, transactions: bool = False) -> Book:
+    """Rows of the table of tables, by one transaction or by as many: changes of one, or one each about as many."""
     book = Book([table(3)])
     said = list(verify.table_row(table(3)))
     for n in range(1, count):
         said[0], said[1] = (whole(3 + n), whole(0)) if tables else (whole(3), whole(n))
-        book.start(TABLES, 4, Row(said))
+        book.start(TABLES, n + 3 if transactions else 4, Row(said))
     return book
 
 
-def column_rows(count: int, place: int) -> Book:
-    """Rows of the table of columns: about as many tables (0), items (1) or changes (2)."""
+def column_rows(count: int, place: int, transactions: bool = False) -> Book:
+    """Rows of the table of columns, by one transaction or by as many: about as many tables (0), items (1) or changes
+    (2)."""
     book = Book([table(3)])
     said = list(verify.item_rows(table(3))[1])
     for n in range(3, count):
         said[place] = whole(n + 1 if place == 0 else n if place == 1 else n - 2)
-        book.start(COLUMNS, 4, Row(said))
+        book.start(COLUMNS, n + 1 if transactions else 4, Row(said))
+    return book
+
+
+def names_taken(count: int) -> Book:
+    """Rows about as many tables, all of one name, that stand before those of the table that has it."""
+    book = Book()
+    said = list(verify.table_row(table(3)))
+    for n in range(1, count):
+        said[0] = whole(3 + n)
+        book.start(TABLES, n + 3, Row(said))
+    book.define(table(3), 3)
     return book
 
 
@@ -369,11 +398,17 @@ IMAGES = [
     ("image: versions of one key, a transaction each", pictured(57 + 16 + ROW, lambda n: one_key(n, True)), "Yes"),
     ("image: rows ended from the last to the first", pictured(57 + 16 + ROW, ended_backwards), "Yes"),
     ("image: live rows of one key", pictured(ROW, one_live_key), "No V6 table 3"),
-    ("image: changes of one table", pictured(94, lambda n: table_rows(n, False)), "Yes"),
+    ("image: updates that carry a dropped value on", pictured(57 + 16 + 13 + ROW, carried_on), "Yes"),
+    ("image: changes of one table", pictured(94, lambda n: table_rows(n, False)), "No V7 table 3"),
+    ("image: changes of one table, a transaction each", pictured(
+        57 + 94, lambda n: table_rows(n, False, True)), "No V7 table 3"),
     ("image: rows about as many tables", pictured(94, lambda n: table_rows(n, True)), "No V7 table 4"),
+    ("image: as many tables of one name", pictured(57 + 94, names_taken), "No V7 table 3"),
     ("image: rows of columns, as many tables", pictured(132, lambda n: column_rows(n, 0)), "No V7 table 4"),
     ("image: rows of columns, as many items", pictured(132, lambda n: column_rows(n, 1)), "No V7 table 3"),
-    ("image: rows of columns, as many changes", pictured(132, lambda n: column_rows(n, 2)), "Yes"),
+    ("image: rows of columns, as many changes", pictured(132, lambda n: column_rows(n, 2)), "No V7 table 3"),
+    ("image: rows of columns, as many changes, a transaction each", pictured(
+        57 + 132, lambda n: column_rows(n, 2, True)), "No V7 table 3"),
     ("image: definitions", pictured(52, lambda n: bare([], [], [bare_definition(i + 3) for i in range(n)])), "No V7 table 3"),
     ("image: definitions with their rows", pictured(390, definitions_with_rows), "No V7 table 35"),
     ("image: columns of definitions", pictured(16, lambda n: many_columns(n, False)), "No V7 table 3"),
@@ -381,7 +416,7 @@ IMAGES = [
     ("image: ordinals of indexes", pictured(3, many_indexes), "No V7 table 3"),
     ("image: rows of four indexes", pictured(ROW + 4 * 28, index_rows), "Yes"),
     ("image: values of a row", pictured(1, wide_rows), "No V6 table 3"),
-    ("image: values that are NULL, and changes of a column", pictured(94 + 132, null_rows), "Yes"),
+    ("image: values that are NULL, and changes of a column", pictured(94 + 132, null_rows), "No V7 table 3"),
     ("image: keys of 64 columns", pictured(18 + 64 * 13, long_keys), "No V7 table 3"),
 ]
 
@@ -418,18 +453,18 @@ DIGEST_FILES = [
     ("digests: of no block", digests(lambda n: digest(n + 1, bytes(32)) + ",", tail="@]"), "No V1 digest 0"),
     ("digests: asof", digests("@,", tail="@]", words=["asof", "x.img", "1", "--digests", "x.digests"]), ""),
     ("digests: receipt", digests("@,", tail="@]", words=["receipt", "x.img", "x.digests", "4", "--save", "r"]), "receipt 0 1"),
-    ("digests: keys of an object", digests(lambda n: f'"{n}":0,', "[@,{", '"":0}]'), "digest 1"),
-    ("digests: equal keys", digests('"hash":0,', "[@,{", '"":0}]'), "digest 1"),
-    ("digests: a text of escapes", digests("\\u0041", '[@,"', '"]'), "digest 1"),
-    ("digests: a text of pairs of escapes", digests("\\ud83d\\ude00", '[@,"', '"]'), "digest 1"),
-    ("digests: digits of a number", digests("1", "[@,", "]"), "were refused"),
-    ("digests: digits behind the point", digests("0", "[@,0.", "1]"), "digest 1"),
-    ("digests: digits of an exponent", digests("0", "[@,1e", "1]"), "digest 1"),
-    ("digests: digits of a small number", digests("9", "[@,0.", "e-330]"), "digest 1"),
-    ("digests: arrays", digests("[],", "[@,", "[]]"), "digest 1"),
-    ("digests: arrays in arrays", digests("[" * 125 + "]" * 125 + ",", "[@,", "[]]"), "digest 1"),
-    ("digests: too many arrays in arrays", digests("[", "[@,"), "were refused"),
-    ("digests: objects in objects", digests('{"":' * 125 + "0" + "}" * 125 + ",", "[@,", "[]]"), "digest 1"),
+    ("digests: keys of an object", digests(lambda n: f'"{n}":0,', "[@,{", '"":0}]'), "at index 1"),
+    ("digests: equal keys", digests('"hash":0,', "[@,{", '"":0}]'), "at index 1"),
+    ("digests: a text of escapes", digests("\\u0041", '[@,"', '"]'), "at index 1"),
+    ("digests: a text of pairs of escapes", digests("\\ud83d\\ude00", '[@,"', '"]'), "at index 1"),
+    ("digests: digits of a number", digests("1", "[@,", "]"), "in JSON"),
+    ("digests: digits behind the point", digests("0", "[@,0.", "1]"), "at index 1"),
+    ("digests: digits of an exponent", digests("0", "[@,1e", "1]"), "at index 1"),
+    ("digests: digits of a small number", digests("9", "[@,0.", "e-330]"), "at index 1"),
+    ("digests: arrays", digests("[],", "[@,", "[]]"), "at index 1"),
+    ("digests: arrays in arrays", digests("[" * 125 + "]" * 125 + ",", "[@,", "[]]"), "at index 1"),
+    ("digests: too many arrays in arrays", digests("[", "[@,"), "in JSON"),
+    ("digests: objects in objects", digests('{"":' * 125 + "0" + "}" * 125 + ",", "[@,", "[]]"), "at index 1"),
     ("digests: blanks", digests(" ", "[", "@]"), "Yes"),
 ]
 

@@ -4,6 +4,7 @@ What `ledgerd` wouldn't make itself can be made here. Rows are bytes from the be
 """
 
 import hashlib
+import itertools
 import struct
 from collections.abc import Iterable
 
@@ -14,6 +15,8 @@ from ledger import COLUMNS, INT, TABLES, Column, Definition, Type, Value, short
 Start = tuple[int, int]
 
 NULL = b"\0"
+# Transactions from here on create indexes.
+FIRST_OF_INDEXES = 2**48
 
 
 class Row:
@@ -67,11 +70,16 @@ class Book:
             self.define(it, it.id)
 
     def define(self, it: Definition, transaction: int) -> None:
-        """A definition, with its rows in the system's tables, which the transaction starts."""
+        """A definition, with its rows in the system's tables: those of CREATE TABLE, which the transaction starts, and
+        those of each CREATE INDEX, of a transaction of its own."""
         self.add_definition(it)
         self.start(TABLES, transaction, Row(verify.table_row(it)))
-        for item in verify.item_rows(it):
+        items = iter(verify.item_rows(it))
+        for item in itertools.islice(items, len(it.columns)):
             self.start(COLUMNS, transaction, Row(item))
+        for own, index in enumerate(it.indexes, FIRST_OF_INDEXES + 256 * it.id):
+            for item in itertools.islice(items, len(index.ordinals)):
+                self.start(COLUMNS, own, Row(item))
 
     def add_definition(self, it: Definition) -> None:
         """A definition of which the system's tables say nothing."""
